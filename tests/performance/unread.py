@@ -1,6 +1,6 @@
 """Methods that read no item, called on an order of 20,000 rows: the order isn't evaluated.
 
-What is judged is what a line with such a call takes over one that reads nothing of the table itself, for which the same rows are gathered.
+What is judged is what a line with such a call takes over one that reads nothing of the table itself.
 """
 
 import measuring

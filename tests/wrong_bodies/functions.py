@@ -70,20 +70,22 @@ def pieces(text):
 
 
 def name_of_impl(head):
-    """`Type`, or for a trait's impl `TypeTraitArguments`, as a check prints it."""
+    """`Type`, or for a trait's impl `TypeTraitArguments`, as a check prints it: without the impl's own type parameters."""
     head = re.split(r"\bwhere\b", head.replace("->", "  "))[0].strip()
+    own = []
     if head.startswith("<"):
         depth = 0
         for at, mark in enumerate(head):
             depth += (mark == "<") - (mark == ">")
             if depth == 0:
+                own = [last_word(it.partition(":")[0]) for it in pieces(head[1:at])]
                 head = head[at + 1 :]
                 break
     trait, is_trait, kind = head.partition(" for ")
     if not is_trait:
         return last_word(head)
     arguments = [last_word(it) for it in pieces(without_arguments(trait)[1]) if not it.strip().startswith("'")]
-    return last_word(kind) + last_word(trait) + "".join(arguments)
+    return last_word(kind) + last_word(trait) + "".join(it for it in arguments if it not in own)
 
 
 def blocks_of(text):

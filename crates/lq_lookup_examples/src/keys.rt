@@ -14,6 +14,10 @@ impl RowRef for NoRow {
     fn cells(&self) -> &[Scalar] {
         &[]
     }
+
+    fn again(&self) -> Self {
+        NoRow
+    }
 }
 
 /// A generator of numbers, by a multiplication and a sum.

@@ -15,6 +15,10 @@ impl RowRef for NoRow {
     fn cells(&self) -> &[Scalar] {
         &[]
     }
+
+    fn again(&self) -> Self {
+        NoRow
+    }
 }
 
 /// Whether each answer is the one that is expected.

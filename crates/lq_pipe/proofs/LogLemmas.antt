@@ -24,6 +24,7 @@ use Rattle.lq_tree.proofs.CoveredLaws.{above_select_body, above_select_source, a
 use Rattle.lq_tree.proofs.LogLaws.{front_passes, pulled_grows, pulled_left}
 use Rattle.lq_tree.proofs.WatchLaws.{stream_passes}
 use Rattle.lq_tree.proofs.WatchedValueLaws.{all_at, all_one, both_so, each_all, sequence_watched}
+use Rattle.lq_plan.specs.declared.bases.Base.{Base}
 use Rattle.lq_plan.specs.Counts.{read_first}
 use Rattle.lq_plan.specs.Pipes.{items_left}
 use Rattle.lq_plan.specs.PlannedRows.{kept_stream}
@@ -31,7 +32,6 @@ use Rattle.lq_plan.specs.Prepared.{IsPlanned}
 use Rattle.lq_plan.specs.Pulling.{base_stream, item_at, stream_behind}
 use Rattle.lq_plan.specs.Stages.{IsStageOver}
 use Rattle.lq_plan.specs.Watching.{is_covered_pipe, is_covered_stage, matches_pass}
-use Rattle.lq_plan.specs.declared.bases.Base.{Base}
 use Rattle.lq_plan.specs.declared.pipes.Pipe.{Pipe}
 use Rattle.lq_plan.specs.declared.stages.Stage.{Stage}
 use Rattle.lq_plan.specs.declared.stages.Stage.TheVariants as stage
@@ -162,26 +162,26 @@ module _ {R : Type 0} (world : World R) (slots : Slots R) (pipe : Pipe) where
       both_so (is_covered_stage world w pipe.stage) (is_covered_above world w pipe.source.now && have_watched_rows w slots) c.stage_in
       (both_so (is_covered_above world w pipe.source.now) (have_watched_rows w slots) (covered_above world w pipe.source.now c.source_in) c.slots_in)
 
-module _ {R : Type 0} (world : World R) (facts : RowFacts R) (table_of : R → ℕ) (shown : R → List Scalar) (slots : Slots R) (pipe : Pipe)
+module _ {R S : Type 0} (world : World R) (facts : RowFacts R) (table_of : R → ℕ) (shown : R → List Scalar) (slots : Slots R) (pipe : Pipe)
     (P : Watch R → Type 0) where
   -- What a loop over the items of a pipe keeps where a watch is such: the log has grown by watched calls alone, and what a base has left passes.
-  pub record Keeps (log more : List Call) (b : Base R) : Type 0 where
+  pub record Keeps (log more : List Call) (b : Base R S) : Type 0 where
     pub grows : (w : Watch R) (start : List Call) → P w → HasGrown world facts w start log → HasGrown world facts w start more
     pub left : (w : Watch R) → P w → have_watched_rows w (kept_stream table_of shown pipe.plan b).0 ≡ true
 
-  pub opened : (log more : List Call) (b : Base R)
+  pub opened : (log more : List Call) (b : Base R S)
       → ((w : Watch R) (start : List Call) → P w → HasGrown world facts w start log → HasGrown world facts w start more)
       → ((w : Watch R) → P w → have_watched_rows w (base_stream b).0 ≡ true) → Keeps log more b
   opened log more b grows from = record { grows = grows; left = λ w p. kept_pass w table_of shown pipe.plan b (from w p) }
 
   -- something more is asked
-  pub asked : (log more further : List Call) (b : Base R) → Keeps log more b
+  pub asked : (log more further : List Call) (b : Base R S) → Keeps log more b
       → ((w : Watch R) (start : List Call) → P w → HasGrown world facts w start more → HasGrown world facts w start further) → Keeps log further b
   asked log more further b k step = record { grows = λ w start p gr. step w start p (k.grows w start p gr); left = k.left }
 
   module _ (into : (w : Watch R) → P w → Covers world slots pipe w) where
     -- items are pulled
-    pub went_on : (log more further : List Call) (old new : Base R) → Keeps log more old
+    pub went_on : (log more further : List Call) (old new : Base R S) → Keeps log more old
         → HasPulled world facts (λ w. is_covered_pipe world w slots pipe) (kept_stream table_of shown pipe.plan old).0 more
         (kept_stream table_of shown pipe.plan new).0 further
         → Keeps log further new
@@ -197,7 +197,7 @@ module _ {R : Type 0} (world : World R) (facts : RowFacts R) (table_of : R → �
         }
 
     -- the item that comes next passes
-    pub next_passes : (log more : List Call) (old : Base R) (o : Result (Value R) End) (v : Value R) (t : Stream (Value R)) → Keeps log more old
+    pub next_passes : (log more : List Call) (old : Base R S) (o : Result (Value R) End) (v : Value R) (t : Stream (Value R)) → Keeps log more old
         → IsPlanned table_of shown world slots pipe.stage pipe.source.now pipe.plan → o ≡ Ok v → Steps (items_left world slots pipe old) o t
         → (w : Watch R) → P w → has_watched_rows w v ≡ true
     next_passes log more old o v t k planned is steps w p =

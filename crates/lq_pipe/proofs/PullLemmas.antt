@@ -12,12 +12,12 @@ use Rattle.lq_language.specs.Stream.{Stream, each, one, select_by, then_ending, 
 use Rattle.lq_language.specs.Worlds.{World}
 use Rattle.lq_tree.specs.FormMeaning.{Slots}
 use Rattle.lq_tree.specs.declared.tree.Form.{Form}
+use Rattle.lq_plan.specs.declared.bases.Base.{Base}
 use Rattle.lq_plan.specs.Counts.{is_zero, one_less, read_first}
 use Rattle.lq_plan.specs.Pipes.{items_left}
 use Rattle.lq_plan.specs.PlannedRows.{kept_stream, row_cell, row_verdict}
 use Rattle.lq_plan.specs.Prepared.{IsPlanned}
 use Rattle.lq_plan.specs.Pulling.{item_at, last, through_stage}
-use Rattle.lq_plan.specs.declared.bases.Base.{Base}
 use Rattle.lq_plan.specs.declared.pipes.Pipe.{Pipe}
 use Rattle.lq_plan.specs.declared.stages.Stage.TheVariants as stage
 use Rattle.lq_plan.proofs.PlanLaws.{planned_cell, rest_kept, row_here}
@@ -136,7 +136,7 @@ module _ {R : Type 0} (table_of : R → ℕ) (shown : R → List Scalar) (world 
   abbrev pub comes : Value R → Stream (Value R)
   comes x = through_stage world slots pipe.stage (item_at world slots pipe.source.now x)
 
-  pulled : (old new : Base R) (x : Value R) → IsPlanned table_of shown world slots pipe.stage pipe.source.now pipe.plan
+  pulled : {S : Type 0} → (old new : Base R S) (x : Value R) → IsPlanned table_of shown world slots pipe.stage pipe.source.now pipe.plan
       → kept_stream table_of shown pipe.plan old ≡ in_front x (kept_stream table_of shown pipe.plan new)
       → items_left world slots pipe old ≡ then_stream (comes x) (items_left world slots pipe new)
   pulled old new x planned is =
@@ -144,28 +144,28 @@ module _ {R : Type 0} (table_of : R → ℕ) (shown : R → List Scalar) (world 
       ∙ ap (λ (s : Stream (Value R)). each comes s.0 s.1) is
       ∙ ap (then_stream (comes x)) (sym (rest_kept table_of shown world slots pipe.stage pipe.source.now pipe.plan planned new))
 
-  pub next_item : (start old new : Base R) (x v : Value R) → IsPlanned table_of shown world slots pipe.stage pipe.source.now pipe.plan
+  pub next_item : {S : Type 0} → (start old new : Base R S) (x v : Value R) → IsPlanned table_of shown world slots pipe.stage pipe.source.now pipe.plan
       → items_left world slots pipe old ≡ items_left world slots pipe start
       → kept_stream table_of shown pipe.plan old ≡ in_front x (kept_stream table_of shown pipe.plan new)
       → (v ∷ [], end.Done) ≡ comes x → items_left world slots pipe start ≡ in_front v (items_left world slots pipe new)
   next_item start old new x v planned same is gives =
       sym same ∙ pulled old new x planned is ∙ ap (λ (s : Stream (Value R)). then_stream s (items_left world slots pipe new)) (sym gives)
 
-  pub next_dropped : (start old new : Base R) (x : Value R) → IsPlanned table_of shown world slots pipe.stage pipe.source.now pipe.plan
+  pub next_dropped : {S : Type 0} → (start old new : Base R S) (x : Value R) → IsPlanned table_of shown world slots pipe.stage pipe.source.now pipe.plan
       → items_left world slots pipe old ≡ items_left world slots pipe start
       → kept_stream table_of shown pipe.plan old ≡ in_front x (kept_stream table_of shown pipe.plan new)
       → ◌≡◌ {A = Stream (Value R)} ([], end.Done) (comes x) → items_left world slots pipe new ≡ items_left world slots pipe start
   next_dropped start old new x planned same is gives =
       sym (sym same ∙ pulled old new x planned is ∙ ap (λ (s : Stream (Value R)). then_stream s (items_left world slots pipe new)) (sym gives))
 
-  pub next_fault : (start old new : Base R) (x : Value R) (f : Fault) → IsPlanned table_of shown world slots pipe.stage pipe.source.now pipe.plan
+  pub next_fault : {S : Type 0} → (start old new : Base R S) (x : Value R) (f : Fault) → IsPlanned table_of shown world slots pipe.stage pipe.source.now pipe.plan
       → items_left world slots pipe old ≡ items_left world slots pipe start
       → kept_stream table_of shown pipe.plan old ≡ in_front x (kept_stream table_of shown pipe.plan new)
       → ◌≡◌ {A = Stream (Value R)} ([], end.Fault f) (comes x) → ◌≡◌ {A = Stream (Value R)} (items_left world slots pipe start) ([], end.Fault f)
   next_fault start old new x f planned same is gives =
       sym same ∙ pulled old new x planned is ∙ ap (λ (s : Stream (Value R)). then_stream s (items_left world slots pipe new)) (sym gives)
 
-  pub next_ended : (start old : Base R) (e : End) → IsPlanned table_of shown world slots pipe.stage pipe.source.now pipe.plan
+  pub next_ended : {S : Type 0} → (start old : Base R S) (e : End) → IsPlanned table_of shown world slots pipe.stage pipe.source.now pipe.plan
       → items_left world slots pipe old ≡ items_left world slots pipe start → kept_stream table_of shown pipe.plan old ≡ ([], e)
       → ◌≡◌ {A = Stream (Value R)} (items_left world slots pipe start) ([], e)
   next_ended start old e planned same is =

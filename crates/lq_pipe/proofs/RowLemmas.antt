@@ -1,58 +1,73 @@
--- Rows that are kept one by one where a condition is true on them.
-use Rattle.std.proofs.Common.{◌≡◌, ◌∷◌, ◌++◌, ◌+◌, ◌<◌, ◌≤◌, List, [], ℕ, Bool, true, false, Some, Result, Ok, Err, ap, sym, subst, append-nil, get_or, length}
+-- Rows whose numbers are kept one by one, where a condition is true on them.
+use Rattle.std.proofs.Common.{◌≡◌, ◌∷◌, ◌++◌, ◌∙◌, List, [], map, ℕ, Bool, true, false, Some, Result, Ok, Err, ap, sym, refl, append-nil, append_assoc}
+use Rattle.std.specs.Cmp.{first_so, second_so}
 use Rattle.std.specs.List.{list_all}
 use Rattle.lq_value.specs.declared.scalar.Scalar.{Scalar}
+use Rattle.lq_value.specs.declared.value.End.{End}
 use Rattle.lq_value.specs.declared.value.End.TheVariants as end
 use Rattle.lq_value.specs.declared.value.Fault.{Fault}
-use Rattle.lq_language.specs.Stream.{Stream, item_where, where_by}
+use Rattle.lq_language.specs.Stream.{Stream, item_where, then_stream, where_by}
 use Rattle.lq_language.specs.Worlds.{World}
-use Rattle.lq_tree.specs.Watches.{Watch}
 use Rattle.lq_tree.specs.declared.tree.Form.{Form}
-use Rattle.lq_pipe.specs.Conditions.{holds_on, selected}
+use Rattle.lq_pipe.specs.Conditions.{holds_on, selection_with}
 use Rattle.lq_plan.specs.PlannedRows.{row_verdict}
 use Rattle.lq_plan.specs.Prepared.{Decides}
 use Rattle.lq_plan.specs.declared.plans.Plan.{Plan}
 use Rattle.lq_plan.proofs.PlanLaws.{row_meant}
-use Rattle.lq_pipe.proofs.LogLemmas.{all_there}
-use Rattle.lq_pipe.proofs.StreamLemmas.{Goes, each_ends, each_goes, each_stops}
 
-module _ {A : Type 0} (holds : A → Result Bool Fault) (rows : List A) where
-  abbrev all : Stream A
-  all = where_by holds rows end.Done
+-- the numbers so far, with those of a stream of rows behind them
+abbrev pub numbers_then : {A : Type 0} → (A → ℕ) → List ℕ → Stream A → List ℕ × End
+numbers_then number found s = (found ++ map number s.0, s.1)
 
-  -- the rows so far, with what is kept of those that are left
-  abbrev pub Keeps : List A → ℕ → Type 0
-  Keeps found i = Goes (λ y. item_where (holds y) y) rows end.Done all found i
+module _ {A : Type 0} (holds : A → Result Bool Fault) (number : A → ℕ) where
+  abbrev those : List A → Stream A
+  those rows = where_by holds rows end.Done
 
-  pub row_kept : (found more : List A) (i : ℕ) (x : A) → x ≡ get_or rows i x → i < length rows → Ok true ≡ holds x → more ≡ found ++ x ∷ []
-      → Keeps found i → Keeps more (i + 1)
-  row_kept found more i x is below gives more_is keeps =
-      each_goes (λ y. item_where (holds y) y) rows end.Done all found more (x ∷ []) i x is below (ap (λ t. item_where t x) (sym gives)) more_is keeps
+  -- the numbers so far, with those of the rows that are left, are those of all rows
+  abbrev pub KeepsNumbers : List A → List ℕ → List A → Type 0
+  KeepsNumbers rows found left = numbers_then number found (those left) ≡ numbers_then number [] (those rows)
 
-  pub row_dropped : (found : List A) (i : ℕ) (x : A) → x ≡ get_or rows i x → i < length rows → Ok false ≡ holds x → Keeps found i → Keeps found (i + 1)
-  row_dropped found i x is below gives keeps =
-      each_goes (λ y. item_where (holds y) y) rows end.Done all found found [] i x is below (ap (λ t. item_where t x) (sym gives)) (sym (append-nil found)) keeps
+  -- at first
+  pub numbers_begun : (rows : List A) → KeepsNumbers rows [] rows
+  numbers_begun rows = refl
 
-  -- either of the two
-  pub row_selected : (found more : List A) (i : ℕ) (x : A) (b : Bool) → x ≡ get_or rows i x → i < length rows → Ok b ≡ holds x → more ≡ selected b x found
-      → Keeps found i → Keeps more (i + 1)
-  row_selected found more i x true is below gives more_is keeps = row_kept found more i x is below gives more_is keeps
-  row_selected found more i x false is below gives more_is keeps =
-      subst (λ (rows_so_far : List A). Keeps rows_so_far (i + 1)) (sym more_is) (row_dropped found i x is below gives keeps)
+  -- behind a row on which the condition is true, and behind another
+  pub number_kept : (rows left further : List A) (found more : List ℕ) (x : A) (b : Bool) → left ≡ x ∷ further → Ok b ≡ holds x
+      → more ≡ selection_with b (number x) found → KeepsNumbers rows found left → KeepsNumbers rows more further
+  number_kept rows left further found more x true is gives more_is keeps =
+      ap (λ (l : List ℕ). numbers_then number l (those further)) more_is
+      ∙ (λ i. (append_assoc found (number x ∷ []) (map number (those further).0) i, (those further).1))
+      ∙ ap (λ (t : Result Bool Fault). numbers_then number found (then_stream (item_where t x) (those further))) gives
+      ∙ ap (λ (l : List A). numbers_then number found (those l)) (sym is) ∙ keeps
+  number_kept rows left further found more x false is gives more_is keeps =
+      ap (λ (l : List ℕ). numbers_then number l (those further)) more_is
+      ∙ ap (λ (t : Result Bool Fault). numbers_then number found (then_stream (item_where t x) (those further))) gives
+      ∙ ap (λ (l : List A). numbers_then number found (those l)) (sym is) ∙ keeps
 
-  pub rows_stopped : (found : List A) (i : ℕ) (x : A) (f : Fault) → x ≡ get_or rows i x → i < length rows → Err f ≡ holds x → Keeps found i
-      → (found, end.Fault f) ≡ all
-  rows_stopped found i x f is below gives keeps =
-      each_stops (λ y. item_where (holds y) y) rows end.Done all found found [] i x f is below (ap (λ t. item_where t x) (sym gives)) (sym (append-nil found)) keeps
+  -- a fault is their ending
+  pub numbers_stopped : (rows left further : List A) (found : List ℕ) (x : A) (f : Fault) → left ≡ x ∷ further → Err f ≡ holds x
+      → KeepsNumbers rows found left → (found, end.Fault f) ≡ numbers_then number [] (those rows)
+  numbers_stopped rows left further found x f is gives keeps =
+      ap (λ (l : List ℕ). (l, end.Fault f)) (sym (append-nil found))
+      ∙ ap (λ (t : Result Bool Fault). numbers_then number found (then_stream (item_where t x) (those further))) gives
+      ∙ ap (λ (l : List A). numbers_then number found (those l)) (sym is) ∙ keeps
 
-  pub rows_ended : (found : List A) (i : ℕ) → length rows ≤ i → Keeps found i → (found, end.Done) ≡ all
-  rows_ended found i over keeps = each_ends (λ y. item_where (holds y) y) rows end.Done all found i over keeps
+  -- and none is left
+  pub numbers_ended : (rows left : List A) (found : List ℕ) → left ≡ [] → KeepsNumbers rows found left
+      → (found, end.Done) ≡ numbers_then number [] (those rows)
+  numbers_ended rows left found none keeps =
+      ap (λ (l : List ℕ). (l, end.Done)) (sym (append-nil found))
+      ∙ ap (λ (l : List A). numbers_then number found (those l)) (sym none) ∙ keeps
 
--- a row of those that a watch passes passes
-pub row_passed : {R : Type 0} (w : Watch R) (rows : List R) (i : ℕ) (x : R) → list_all w.row rows ≡ true → x ≡ get_or rows i x → i < length rows → w.row x ≡ true
-row_passed w rows i x h is below = all_there w.row rows i x h is below
+module _ {A : Type 0} (q : A → Bool) where
+  -- where all that is left passes, the next does, and what is left behind it
+  pub next_passed : (left further : List A) (x : A) → left ≡ x ∷ further → list_all q left ≡ true → q x ≡ true
+  next_passed left further x is h = first_so (q x) (list_all q further) (ap (list_all q) (sym is) ∙ h)
 
-pub ruleset keeps_rows = (row_selected, rows_ended, row_passed)
+  pub others_passed : (left further : List A) (x : A) → left ≡ x ∷ further → list_all q left ≡ true → list_all q further ≡ true
+  others_passed left further x is h = second_so (q x) (list_all q further) (ap (list_all q) (sym is) ∙ h)
+
+pub ruleset keeps_numbers = (numbers_begun, number_kept, numbers_ended, next_passed, others_passed)
 
 -- what a plan says of a row is what the condition is there
 module _ {R : Type 0} (table_of : R → ℕ) (shown : R → List Scalar) (world : World R) where

@@ -1,5 +1,6 @@
 -- The rows on which a condition is true (.NET, Enumerable.Where).
-use Rattle.std.specs.Prelude.{◌∷◌, ◌++◌, List, [], Bool, true, false, Result}
+use Rattle.std.specs.Prelude.{◌∷◌, ◌++◌, List, [], map, ℕ, Bool, true, false, Result}
+use Rattle.lq_value.specs.declared.value.End.{End}
 use Rattle.lq_value.specs.declared.value.End.TheVariants as end
 use Rattle.lq_value.specs.declared.value.Fault.{Fault}
 use Rattle.lq_value.specs.declared.value.Value.TheVariants as value
@@ -17,7 +18,11 @@ module _ {R : Type 0} (world : World R) where
   abbrev pub rows_true : Form → List R → Stream R
   rows_true condition rows = where_by (holds_on condition) rows end.Done
 
--- the rows so far, and this one behind them where a condition is true on it
-abbrev pub selected : {R : Type 0} → Bool → R → List R → List R
-selected true r rows = rows ++ r ∷ []
-selected false r rows = rows
+  -- their numbers, as rows tell them, and how they end
+  abbrev pub numbers_true : (R → ℕ) → Form → List R → List ℕ × End
+  numbers_true number condition rows = (map number (rows_true condition rows).0, (rows_true condition rows).1)
+
+-- a selection so far, and this behind it where a condition is true
+abbrev pub selection_with : {A : Type 0} → Bool → A → List A → List A
+selection_with true x xs = xs ++ x ∷ []
+selection_with false x xs = xs

@@ -7,17 +7,18 @@ use Rattle.lq_host.specs.declared.call.Call.{Call}
 use Rattle.lq_language.specs.Worlds.{World}
 use Rattle.lq_tree.specs.Watches.{Watch}
 use Rattle.lq_tree.specs.declared.tree.Form.{Form}
+use Rattle.lq_plan.specs.declared.bases.Base.{Base}
 use Rattle.lq_plan.specs.Plans as plans
 use Rattle.lq_plan.specs.Watching as watching
-use Rattle.lq_plan.specs.declared.bases.Base.{Base}
 use Rattle.lq_plan.specs.declared.pipes.Pipe.{Pipe}
 use Rattle.lq_plan.specs.declared.plans.Plan.{Plan}
+use Rattle.lq_plan.specs.declared.rows.Rows as Readers
 use Rattle.lq_plan.specs.declared.slots.Slots.{Slots}
 use Rattle.lq_plan.specs.declared.stages.Stage.{Stage}
 use Rattle.lq_plan.specs.declared.tables.TableRow as Rows
 use Rattle.lq_pipe.specs.declared.running.Running.{Running}
 
-module _ {R H : Type 0} {t : Rows.Ghosts R} {r : Cells.Ghosts R} {h : Hosts.Ghosts H} (run : Running R H t r h) where
+module _ {R S H : Type 0} {t : Rows.Ghosts R} {r : Cells.Ghosts R} {s : Readers.Ghosts S R} {h : Hosts.Ghosts H} (run : Running R S H t r s h) where
   -- the world of the tables that are read, and of the predicates that are asked
   abbrev pub world : World R
   world = plans.world run.sources
@@ -34,7 +35,7 @@ module _ {R H : Type 0} {t : Rows.Ghosts R} {r : Cells.Ghosts R} {h : Hosts.Ghos
   abbrev pub Grown : Watch R → List Call → List Call → Type 0
   Grown = watching.Grown run.sources
 
-  abbrev pub HasTaken : Slots R → Pipe → Base R → List Call → Base R → List Call → Type 0
+  abbrev pub HasTaken : Slots R → Pipe → Base R S → List Call → Base R S → List Call → Type 0
   HasTaken = watching.Pulled run.sources
 
   -- a watch covers a form, what stands above its base, a stage, and the element of a group

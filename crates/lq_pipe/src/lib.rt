@@ -14,6 +14,6 @@ mod rows;
 mod running;
 mod trees;
 
-pub use lq_plan::{RunError, TableRow, TableRows};
-pub use rows::rows_where;
+pub use lq_plan::{Gathered, Rows, RunError, TableRow, TableRows};
+pub use rows::numbers_where;
 pub use trees::{run, value};

@@ -2,13 +2,14 @@
 use crate::running::Running;
 use lq_host::{Asks, Log};
 use lq_plan::{
-    Base, Outcome, Pipe, Pulled, Slots, Stage, TableRow, counts, has_no_stage, sequences, stage_of,
+    Base, Outcome, Pipe, Pulled, Rows, Slots, Stage, TableRow, counts, has_no_stage, sequences,
+    stage_of,
 };
 use lq_tree::Form;
 use lq_value::{End, List, Value, copy_scalar};
 use std::alloc::AllocError;
 
-impl<'a, R: TableRow, H: Asks> Running<'a, R, H> {
+impl<'a, R: TableRow, S: Rows<R>, H: Asks> Running<'a, R, S, H> {
     ghost use Rattle.std.specs.Prelude.{◌≡◌, ◌∷◌, [], Some, true, IfOk, List};
     ghost use Rattle.lq_value.specs.declared.value.Value.TheVariants as value;
     ghost use Rattle.lq_value.specs.declared.value.End.TheVariants as end;
@@ -33,7 +34,7 @@ impl<'a, R: TableRow, H: Asks> Running<'a, R, H> {
         form: &Form,
         slots: &Slots<'_, R>,
         log: &mut Log<H>,
-    ) -> Result<Base<'a, R>, AllocError>
+    ) -> Result<Base<R, S>, AllocError>
         ensures meant { IfOk result (λ base.
             base_stream base ≡ items_meant (world self.now) form.now slots.now) }
         ensures from { IfOk result (λ base. (w : Watch R) → covers self.now w form.now ≡ true → watches w slots.now ≡ true
@@ -61,7 +62,7 @@ impl<'a, R: TableRow, H: Asks> Running<'a, R, H> {
         form: &Form,
         slots: &Slots<'_, R>,
         log: &mut Log<H>,
-    ) -> Result<Base<'a, R>, AllocError>
+    ) -> Result<Base<R, S>, AllocError>
         ensures meant { IfOk result (λ base.
             items_at (world self.now) (values_in slots.now) form.now (base_stream base)
             ≡ items_meant (world self.now) form.now slots.now) }
@@ -203,14 +204,14 @@ impl<'a, R: TableRow, H: Asks> Running<'a, R, H> {
             → Grown self.now w start log.old → Grown self.now w start log.new }
     {
         match pipe.stage {
-            Stage::Plain => Ok(Outcome::Item(Value::Row(*row))),
-            Stage::Where(_) => Ok(Outcome::Item(Value::Row(*row))),
+            Stage::Plain => Ok(Outcome::Item(Value::Row(row.again()))),
+            Stage::Where(_) => Ok(Outcome::Item(Value::Row(row.again()))),
             Stage::Select(body) => match pipe.plan.cell(row) {
                 Some(cell) => Ok(Outcome::Item(Value::Scalar(copy_scalar(
                     self.sources.alloc,
                     cell,
                 )?))),
-                None => self.pass_select(body, &Value::Row(*row), slots, log),
+                None => self.pass_select(body, &Value::Row(row.again()), slots, log),
             },
         }
     }
@@ -248,7 +249,7 @@ impl<'a, R: TableRow, H: Asks> Running<'a, R, H> {
     pub(crate) fn next(
         &self,
         pipe: &Pipe<'_>,
-        base: &mut Base<'a, R>,
+        base: &mut Base<R, S>,
         slots: &Slots<'_, R>,
         log: &mut Log<H>,
     ) -> Result<Result<Value<R>, End>, AllocError>

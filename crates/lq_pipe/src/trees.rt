@@ -10,7 +10,7 @@ ghost use Rattle.lq_plan.specs.Worlds.{HaveDistinctColumns, schemas_in, world_of
 use crate::running::Running;
 use lq_host::{Asks, Log};
 use lq_operators::RunError;
-use lq_plan::{Slots, Sources, TableRow, TableRows, sequences};
+use lq_plan::{Rows, Slots, Sources, TableRow, TableRows, sequences};
 use lq_tree::Tree;
 use lq_value::{End, List, Value};
 use std::alloc::{AllocError, Global};
@@ -18,17 +18,18 @@ use std::alloc::{AllocError, Global};
 /// The value of a typed tree over these tables and host predicates, or its first fault (ECMA-334,
 /// expressions; .NET, `Enumerable`). `Memory` where none was left.
 #[tactic(auto, using(lq_plan::proofs::SlotLaws::no_values))]
-pub fn value<'a, R: TableRow, H: Asks>(
+pub fn value<'a, R: TableRow, S: Rows<R>, H: Asks>(
     alloc: Global,
     tree: &Tree,
-    tables: &'a [TableRows<'a, R>],
+    tables: &'a [TableRows<'a, S>],
     hosts: &'a H,
     log: &mut Log<H>,
 ) -> Result<Value<R>, RunError>
     requires { HaveDistinctColumns (schemas_in tables.now) }
-    ensures calls { AddsOwnCalls (world_of R.table_of R.shown (H.known hosts.now) tables.now)
+    ensures calls { AddsOwnCalls (world_of R.table_of R.shown S.left (H.known hosts.now) tables.now)
         (facts_of R.table_of R.number_of R.shown) tree.now.form [] log.old log.new }
-    ensures meant { IsAnswer (form_meaning (world_of R.table_of R.shown (H.known hosts.now) tables.now)
+    ensures meant { IsAnswer (form_meaning
+        (world_of R.table_of R.shown S.left (H.known hosts.now) tables.now)
         tree.now.form []) result }
 {
     let sources = Sources::new(alloc, tables, hosts);
@@ -38,20 +39,20 @@ pub fn value<'a, R: TableRow, H: Asks>(
 
 /// The items of a typed tree over these tables and host predicates, and how they end: a fault that is
 /// met in making them is their ending. Refused where no memory was left.
-pub fn run<'a, R: TableRow, H: Asks>(
+pub fn run<'a, R: TableRow, S: Rows<R>, H: Asks>(
     alloc: Global,
     tree: &Tree,
-    tables: &'a [TableRows<'a, R>],
+    tables: &'a [TableRows<'a, S>],
     hosts: &'a H,
     log: &mut Log<H>,
 ) -> Result<(List<Value<R>>, End), AllocError>
     requires { HaveDistinctColumns (schemas_in tables.now) }
-    ensures calls { AddsOwnCalls (world_of R.table_of R.shown (H.known hosts.now) tables.now)
+    ensures calls { AddsOwnCalls (world_of R.table_of R.shown S.left (H.known hosts.now) tables.now)
         (facts_of R.table_of R.number_of R.shown) tree.now.form [] log.old log.new }
     ensures meant { IfOk result (λ s. s
-        ≡ stream_of (world_of R.table_of R.shown (H.known hosts.now) tables.now)
-        (form_meaning (world_of R.table_of R.shown (H.known hosts.now) tables.now)
+        ≡ stream_of (world_of R.table_of R.shown S.left (H.known hosts.now) tables.now)
+        (form_meaning (world_of R.table_of R.shown S.left (H.known hosts.now) tables.now)
         tree.now.form [])) }
 {
-    sequences::stream(alloc, value(alloc, tree, tables, hosts, log))
+    sequences::stream(alloc, value::<R, S, H>(alloc, tree, tables, hosts, log))
 }

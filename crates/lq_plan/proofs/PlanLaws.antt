@@ -12,11 +12,11 @@ use Rattle.lq_language.specs.Worlds.{World}
 use Rattle.lq_condition.specs.Verdicts.{verdict}
 use Rattle.lq_tree.specs.FormMeaning.{Slots, form_meaning, with_item}
 use Rattle.lq_tree.specs.declared.tree.Form.{Form}
+use Rattle.lq_plan.specs.declared.bases.Base.{Base}
 use Rattle.lq_plan.specs.Meanings.{truth_in}
 use Rattle.lq_plan.specs.PlannedRows.{is_kept_by, kept_stream, row_cell, row_verdict}
 use Rattle.lq_plan.specs.Prepared.{Decides, IsCell, IsPlanned}
 use Rattle.lq_plan.specs.Pulling.{item_at, last_if, rest_behind, through_stage}
-use Rattle.lq_plan.specs.declared.bases.Base.{Base}
 use Rattle.lq_plan.specs.declared.plans.Plan.{Plan}
 use Rattle.lq_plan.specs.declared.stages.Stage.{Stage}
 use Rattle.lq_plan.specs.declared.stages.Stage.TheVariants as stage
@@ -74,8 +74,8 @@ module _ {R : Type 0} (table_of : R → ℕ) (shown : R → List Scalar) where
     rows_kept (r ∷ xs) items e = kept_next r (row_verdict table_of shown plan r) xs items e refl (rows_kept xs items e)
 
     -- nothing comes of the rows that a plan leaves out
-    pub rest_kept : (b : Base R) → rest_behind world slots st source b ≡ each comes (kept_stream table_of shown plan b).0 (kept_stream table_of shown plan b).1
-    rest_kept b = rows_kept b.rows.now (reverse b.items.items) b.end
+    pub rest_kept : {S : Type 0} → (b : Base R S) → rest_behind world slots st source b ≡ each comes (kept_stream table_of shown plan b).0 (kept_stream table_of shown plan b).1
+    rest_kept b = rows_kept b.rows (reverse b.items.items) b.end
 
   -- ---- cells that are planned
 

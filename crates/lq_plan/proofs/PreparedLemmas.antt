@@ -52,13 +52,13 @@ module _ {R : Type 0} (table_of : R → ℕ) (shown : R → List Scalar) (slots 
   cell_is : (world : World R) (s : Scalar) (found : Option Scalar) → found ≡ Some s → cell_value world found ≡ Ok (value.Scalar s)
   cell_is world s found is = ap (cell_value world) is
 
-  pub own_cell : (predicates : List Predicate) (tables : List (TableRows R)) (n table c : ℕ) (name : List ℕ) → HaveDistinctColumns (schemas_in tables) → n ≡ length slots
+  pub own_cell : {S : Type 0} (left : S → List R) (predicates : List Predicate) (tables : List (TableRows S)) (n table c : ℕ) (name : List ℕ) → HaveDistinctColumns (schemas_in tables) → n ≡ length slots
       → Some name ≡ name_of_column (schemas_in tables) table c
-      → IsCell table_of shown (world_of table_of shown predicates tables) slots table (form.Column (form.Slot n) table c) c
-  own_cell predicates tables n table c name distinct next named = record { at = λ r is. of r is (slice_get (shown r) c) refl }
+      → IsCell table_of shown (world_of table_of shown left predicates tables) slots table (form.Column (form.Slot n) table c) c
+  own_cell left predicates tables n table c name distinct next named = record { at = λ r is. of r is (slice_get (shown r) c) refl }
     where
       world : World R
-      world = world_of table_of shown predicates tables
+      world = world_of table_of shown left predicates tables
 
       of : (r : R) → table_of r ≡ table → (found : Option Scalar) → slice_get (shown r) c ≡ found → IfSome found (λ s. form_meaning world (form.Column (form.Slot n) table c) (with_item world slots (value.Row r)) ≡ Ok (value.Scalar s))
       of r is None there = tt
@@ -71,13 +71,13 @@ module _ {R : Type 0} (table_of : R → ℕ) (shown : R → List Scalar) (slots 
           (ap (option_and_then (world.cell r)) (sym named)
           ∙ cell_found (schemas_in tables) table (table_of r) c name (shown r) distinct is (sym named) ∙ there)
 
-  pub own_cell_at : (predicates : List Predicate) (tables : List (TableRows R)) (f row : Form) (n number table c : ℕ) (name : List ℕ) → HaveDistinctColumns (schemas_in tables)
+  pub own_cell_at : {S : Type 0} (left : S → List R) (predicates : List Predicate) (tables : List (TableRows S)) (f row : Form) (n number table c : ℕ) (name : List ℕ) → HaveDistinctColumns (schemas_in tables)
       → f ≡ form.Column row number c → row ≡ form.Slot n → number ≡ table → n ≡ length slots
       → Some name ≡ name_of_column (schemas_in tables) number c
-      → IsCell table_of shown (world_of table_of shown predicates tables) slots table f c
-  own_cell_at predicates tables f row n number table c name distinct is of same next named =
-      subst (λ g. IsCell table_of shown (world_of table_of shown predicates tables) slots table g c) (sym (is ∙ (λ i. form.Column (of i) (same i) c)))
-      (own_cell predicates tables n table c name distinct next (named ∙ ap (λ t. name_of_column (schemas_in tables) t c) same))
+      → IsCell table_of shown (world_of table_of shown left predicates tables) slots table f c
+  own_cell_at left predicates tables f row n number table c name distinct is of same next named =
+      subst (λ g. IsCell table_of shown (world_of table_of shown left predicates tables) slots table g c) (sym (is ∙ (λ i. form.Column (of i) (same i) c)))
+      (own_cell left predicates tables n table c name distinct next (named ∙ ap (λ t. name_of_column (schemas_in tables) t c) same))
 
   module _ (world : World R) where
     pub constant_literal : (s : Scalar) → IsConstant table_of shown world slots (form.Literal s) s

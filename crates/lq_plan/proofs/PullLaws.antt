@@ -14,9 +14,9 @@ use Rattle.lq_tree.specs.declared.tree.Form.{Form, map-Form, out-Form, para-roll
 use Rattle.lq_tree.specs.declared.tree.Form.TheOpen.{Form-F}
 use Rattle.lq_tree.specs.declared.tree.Form.TheVariants as form
 use Rattle.lq_tree.specs.declared.tree.Form.TheViews.{roll-out-Form}
+use Rattle.lq_plan.specs.declared.bases.Base.{Base}
 use Rattle.lq_plan.specs.Pulling.{base_stream, end_of, item_at, item_step, items_at, stream_behind, rest_behind, rows_or_none, through_select, through_stage, through_where}
 use Rattle.lq_plan.specs.Stages.{IsStageOver, has_no_stage, has_no_stage_step, is_base, is_base_step}
-use Rattle.lq_plan.specs.declared.bases.Base.{Base}
 use Rattle.lq_plan.specs.declared.stages.Stage.{Stage}
 use Rattle.lq_plan.specs.declared.stages.Stage.TheVariants as stage
 use Rattle.lq_plan.proofs.FormLaws.{form_select, form_sequence, form_table, form_where}
@@ -150,10 +150,10 @@ module _ {R : Type 0} (world : World R) (slots : Slots R) where
 
   -- ---- bases of forms
 
-  pub opens_base : (f : Form) (b : Base R) → is_base f ≡ true → base_stream b ≡ items f → items_at world slots f (base_stream b) ≡ items f
+  pub opens_base : {S : Type 0} → (f : Form) (b : Base R S) → is_base f ≡ true → base_stream b ≡ items f → items_at world slots f (base_stream b) ≡ items f
   opens_base f b base is = each_one (item_at world slots f) (λ x. base_item f x base) (base_stream b).0 (base_stream b).1 ∙ is
 
-  pub opens_stage : (st : Stage) (f a : Form) (b : Base R) → IsStageOver f st a → items_at world slots a (base_stream b) ≡ items a
+  pub opens_stage : {S : Type 0} → (st : Stage) (f a : Form) (b : Base R S) → IsStageOver f st a → items_at world slots a (base_stream b) ≡ items a
       → items_at world slots f (base_stream b) ≡ items f
   opens_stage st f a b is opened =
       (λ i. each (λ x. stage_item st f a x is i) (base_stream b).0 (base_stream b).1)
@@ -175,7 +175,7 @@ module _ {R : Type 0} (world : World R) (slots : Slots R) where
   -- ---- pulling
 
   -- what is left of an opened base is all that is pulled
-  pub left_opened : (st : Stage) (a : Form) (b : Base R) → items_at world slots a (base_stream b) ≡ items a
+  pub left_opened : {S : Type 0} → (st : Stage) (a : Form) (b : Base R S) → items_at world slots a (base_stream b) ≡ items a
       → rest_behind world slots st a b ≡ stream_behind world slots st a
   left_opened st a b opened = through_each st a (base_stream b) ∙ ap (through_stage world slots st) opened
 

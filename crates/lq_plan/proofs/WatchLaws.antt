@@ -1,7 +1,6 @@
 -- The rows in what is pulled pass a watch's test where those of the base do, and the watch covers what stands above the base.
-use Rattle.std.proofs.Common.{◌≡◌, ◌∷◌, ◌++◌, ◌&&◌, ◌==◌, if◌then◌else◌, List, [], ℕ, zero, suc, ℤ, Bool, true, false, Option, Some, None, IfSome, Result, Ok, Err, map, filter, reverse, ap, ◌∙◌, sym, subst, refl, slice_get, option_and_then, option_map}
+use Rattle.std.proofs.Common.{◌≡◌, ◌∷◌, ◌&&◌, if◌then◌else◌, List, [], ℕ, zero, suc, ℤ, Bool, true, false, Option, Some, None, IfSome, map, filter, reverse, ap, ◌∙◌, sym, subst, refl, option_and_then, option_map}
 use Rattle.std.specs.Cmp.{first_so, second_so}
-use Rattle.std.specs.List.{list_all}
 use Rattle.std.proofs.lemmas.Option.{none-some}
 use Rattle.lq_value.specs.declared.scalar.Scalar.{Scalar}
 use Rattle.lq_value.specs.declared.value.End.{End}
@@ -15,24 +14,22 @@ use Rattle.lq_host.specs.declared.call.Pick2.TheVariants as arguments
 use Rattle.lq_host.specs.Predicates.{Predicate}
 use Rattle.lq_language.specs.Enumerable.{take_first}
 use Rattle.lq_language.specs.OperandMeaning.{stream_of}
-use Rattle.lq_language.specs.Stream.{Stream, each}
-use Rattle.lq_language.specs.TableRows.{cell_named}
+use Rattle.lq_language.specs.Stream.{Stream}
 use Rattle.lq_language.specs.Worlds.{World}
-use Rattle.lq_machine.specs.Served.{columns_in}
 use Rattle.lq_tree.specs.FormMeaning.{Slots, arguments_in, form_meaning, is_true, name_of_column, numbered_cell, with_item}
-use Rattle.lq_tree.specs.Watches.{Watch, above_step, has_watched_rows, have_watched_rows, is_covered, is_covered_above}
+use Rattle.lq_tree.specs.Watches.{Watch, has_watched_rows, have_watched_rows, is_covered, is_covered_above}
 use Rattle.lq_tree.specs.declared.tree.Form.{Form, ind-Form, map-Form, roll-Form}
 use Rattle.lq_tree.specs.declared.tree.Form.TheOpen.{Form-F}
 use Rattle.lq_tree.proofs.CoveredLaws.{above_roll}
 use Rattle.lq_tree.proofs.WatchLaws.{item_flows, stream_passes}
 use Rattle.lq_tree.proofs.WatchedValueLaws.{all_append, all_before, all_behind, all_one, both_so, each_all, select_pass, where_pass}
+use Rattle.lq_plan.specs.declared.bases.Base.{Base}
 use Rattle.lq_plan.specs.Counts.{read_first}
 use Rattle.lq_plan.specs.PlannedRows.{is_kept_by, kept_stream, row_verdict}
 use Rattle.lq_plan.specs.Prepared.{IsPlanned}
 use Rattle.lq_plan.specs.Pulling.{base_stream, item_at, rest_behind, stream_behind, through_select, through_stage, through_where}
 use Rattle.lq_plan.specs.Watching.{is_covered_pipe, is_covered_stage}
 use Rattle.lq_plan.specs.Worlds.{HaveDistinctColumns, cell_of, schemas_in, world_of}
-use Rattle.lq_plan.specs.declared.bases.Base.{Base}
 use Rattle.lq_plan.specs.declared.pipes.Pipe.{Pipe}
 use Rattle.lq_plan.specs.declared.plans.Plan.{Plan}
 use Rattle.lq_plan.specs.declared.stages.Stage.{Stage}
@@ -44,10 +41,10 @@ use Rattle.lq_plan.proofs.PullLaws.{roll_item}
 
 -- ---- the arguments of a row of the table
 
-module _ {R : Type 0} (table_of : R → ℕ) (shown : R → List Scalar) (predicates : List Predicate) (tables : List (TableRows R))
+module _ {R S : Type 0} (table_of : R → ℕ) (shown : R → List Scalar) (left : S → List R) (predicates : List Predicate) (tables : List (TableRows S))
     (distinct : HaveDistinctColumns (schemas_in tables)) where
   abbrev W : World R
-  W = world_of table_of shown predicates tables
+  W = world_of table_of shown left predicates tables
 
   named_number : (t c : ℕ) (r : R) (z : ℤ) (o : Option (List ℕ)) → table_of r ≡ t → name_of_column (schemas_in tables) t c ≡ o
       → number_of (option_and_then (cell_of table_of shown tables r) o) ≡ Some z → number_at (shown r) c ≡ Some z
@@ -172,12 +169,12 @@ module _ {R : Type 0} (w : Watch R) where
 
   module _ (table_of : R → ℕ) (shown : R → List Scalar) (plan : Plan) where
     -- the items that a plan leaves of a base
-    pub kept_pass : (b : Base R) → have_watched_rows w (base_stream b).0 ≡ true → have_watched_rows w (kept_stream table_of shown plan b).0 ≡ true
+    pub kept_pass : {S : Type 0} → (b : Base R S) → have_watched_rows w (base_stream b).0 ≡ true → have_watched_rows w (kept_stream table_of shown plan b).0 ≡ true
     kept_pass b h =
-        all_append (has_watched_rows w) (map value.Row (filter (λ r. is_kept_by (row_verdict table_of shown plan r)) b.rows.now)) (reverse b.items.items)
-        (filtered_pass (λ r. is_kept_by (row_verdict table_of shown plan r)) b.rows.now
-        (all_before (has_watched_rows w) (map value.Row b.rows.now) (reverse b.items.items) h))
-        (all_behind (has_watched_rows w) (map value.Row b.rows.now) (reverse b.items.items) h)
+        all_append (has_watched_rows w) (map value.Row (filter (λ r. is_kept_by (row_verdict table_of shown plan r)) b.rows)) (reverse b.items.items)
+        (filtered_pass (λ r. is_kept_by (row_verdict table_of shown plan r)) b.rows
+        (all_before (has_watched_rows w) (map value.Row b.rows) (reverse b.items.items) h))
+        (all_behind (has_watched_rows w) (map value.Row b.rows) (reverse b.items.items) h)
 
   -- the first items of a stream
   taken_pass : (n : ℕ) (vs : List (Value R)) (e : End) → have_watched_rows w vs ≡ true → have_watched_rows w (take_first n vs e).0 ≡ true
@@ -211,7 +208,7 @@ module _ {R : Type 0} (table_of : R → ℕ) (shown : R → List Scalar) (world 
   slots_pass = second_so above (have_watched_rows w slots) others_covered
 
   -- what is left of a pipe's items
-  pub left_passes : (b : Base R) → IsPlanned table_of shown world slots pipe.stage pipe.source.now pipe.plan
+  pub left_passes : {S : Type 0} → (b : Base R S) → IsPlanned table_of shown world slots pipe.stage pipe.source.now pipe.plan
       → have_watched_rows w (kept_stream table_of shown pipe.plan b).0 ≡ true
       → have_watched_rows w (rest_behind world slots pipe.stage pipe.source.now b).0 ≡ true
   left_passes b planned h =

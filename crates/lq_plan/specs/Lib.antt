@@ -1,5 +1,7 @@
 pub mod Arrangements
+pub mod Bases
 pub mod Counts
+pub mod Gathering
 pub mod Groups
 pub mod Lists
 pub mod Meanings

@@ -30,9 +30,9 @@ module _ {R : Type 0} (table_of : R → ℕ) (shown : R → List Scalar) (plan :
   row_cell r = option_and_then (slice_get (shown r)) plan.place
 
   -- the items that a base has left, but for the rows that don't pass
-  abbrev pub kept_stream : Base R → Stream (Value R)
+  abbrev pub kept_stream : {S : Type 0} → Base R S → Stream (Value R)
   kept_stream base =
-      (map value.Row (filter (λ r. is_kept_by (row_verdict r)) base.rows.now) ++ reverse base.items.items, base.end)
+      (map value.Row (filter (λ r. is_kept_by (row_verdict r)) base.rows) ++ reverse base.items.items, base.end)
 
   -- a row that is pulled as one is one that passes
   abbrev pub IsPulled : Pulled R → Type 0

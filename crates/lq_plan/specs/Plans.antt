@@ -11,15 +11,16 @@ use Rattle.lq_plan.specs.Slots.{values_in}
 use Rattle.lq_plan.specs.Worlds.{world_of}
 use Rattle.lq_plan.specs.declared.pipes.Pipe.{Pipe}
 use Rattle.lq_plan.specs.declared.plans.Plan.{Plan}
+use Rattle.lq_plan.specs.declared.rows.Rows as Readers
 use Rattle.lq_plan.specs.declared.sources.Sources.{Sources}
 use Rattle.lq_plan.specs.declared.slots.Slots.{Slots}
 use Rattle.lq_plan.specs.declared.stages.Stage.{Stage}
 use Rattle.lq_plan.specs.declared.tables.TableRow as Rows
 
-module _ {R H : Type 0} {t : Rows.Ghosts R} {r : Cells.Ghosts R} {h : Hosts.Ghosts H} (sources : Sources R H t r h) where
+module _ {R S H : Type 0} {t : Rows.Ghosts R} {r : Cells.Ghosts R} {s : Readers.Ghosts S R} {h : Hosts.Ghosts H} (sources : Sources R S H t r s h) where
   -- the world of the tables that are read, and of the predicates that are asked
   abbrev pub world : World R
-  world = world_of t.table_of r.shown (h.known sources.hosts.now) sources.tables.now
+  world = world_of t.table_of r.shown s.left (h.known sources.hosts.now) sources.tables.now
 
   -- what a plan says of a row of its table is what a condition means there, where the row stands in the first slot
   abbrev pub PlansRows : Form → Plan → Type 0

@@ -19,8 +19,8 @@ use Rattle.lq_plan.specs.declared.stages.Stage.TheVariants as stage
 
 module _ {R : Type 0} where
   -- the items that a base has left, and how they end
-  abbrev pub base_stream : Base R → Stream (Value R)
-  base_stream base = (map value.Row base.rows.now ++ reverse base.items.items, base.end)
+  abbrev pub base_stream : {S : Type 0} → Base R S → Stream (Value R)
+  base_stream base = (map value.Row base.rows ++ reverse base.items.items, base.end)
 
   -- the rows of a table and how they end, where it may not be there
   abbrev pub rows_or_none : Option (List R) → List R
@@ -70,7 +70,7 @@ module _ {R : Type 0} (world : World R) (slots : Slots R) where
   items_at f items = each (item_at f) items.0 items.1
 
   -- the items that are still to come of a source behind its last stage
-  abbrev pub rest_behind : Stage → Form → Base R → Stream (Value R)
+  abbrev pub rest_behind : {S : Type 0} → Stage → Form → Base R S → Stream (Value R)
   rest_behind st source b = each (λ x. through_stage st (item_at source x)) (base_stream b).0 (base_stream b).1
 
   -- and all of them

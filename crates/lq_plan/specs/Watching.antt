@@ -10,13 +10,14 @@ use Rattle.lq_host.specs.declared.call.Call.{Call}
 use Rattle.lq_language.specs.Worlds.{World}
 use Rattle.lq_tree.specs.Watches.{HasGrown, HasPulled, RowFacts, Watch, has_watched_rows, have_watched_rows, is_covered, is_covered_above}
 use Rattle.lq_tree.specs.declared.tree.Form.{Form}
+use Rattle.lq_plan.specs.declared.bases.Base.{Base}
 use Rattle.lq_plan.specs.PlannedRows.{kept_stream}
 use Rattle.lq_plan.specs.Plans as plans
 use Rattle.lq_plan.specs.Slots.{values_in}
-use Rattle.lq_plan.specs.declared.bases.Base.{Base}
 use Rattle.lq_plan.specs.declared.parts.Part.{Part}
 use Rattle.lq_plan.specs.declared.parts.Part.TheVariants as part
 use Rattle.lq_plan.specs.declared.pipes.Pipe.{Pipe}
+use Rattle.lq_plan.specs.declared.rows.Rows as Readers
 use Rattle.lq_plan.specs.declared.slots.Slots.{Slots}
 use Rattle.lq_plan.specs.declared.sources.Sources.{Sources}
 use Rattle.lq_plan.specs.declared.stages.Stage.{Stage}
@@ -56,7 +57,7 @@ module _ {R : Type 0} (world : World R) (w : Watch R) where
   abbrev pub is_covered_pipe : List (Value R) → Pipe → Bool
   is_covered_pipe slots pipe = is_covered_stage pipe.stage && (is_covered_above world w pipe.source.now && have_watched_rows w slots)
 
-module _ {R H : Type 0} {t : Rows.Ghosts R} {r : Cells.Ghosts R} {h : Hosts.Ghosts H} (sources : Sources R H t r h) where
+module _ {R S H : Type 0} {t : Rows.Ghosts R} {r : Cells.Ghosts R} {s : Readers.Ghosts S R} {h : Hosts.Ghosts H} (sources : Sources R S H t r s h) where
   -- what rows tell
   abbrev pub facts : RowFacts R
   facts = facts_of t.table_of t.number_of r.shown
@@ -78,7 +79,7 @@ module _ {R H : Type 0} {t : Rows.Ghosts R} {r : Cells.Ghosts R} {h : Hosts.Ghos
   covers_element w element = is_covered_element (plans.world sources) w element
 
   -- a pull from a base by the plan of a pipe, in these slots
-  abbrev pub Pulled : Slots R → Pipe → Base R → List Call → Base R → List Call → Type 0
+  abbrev pub Pulled : Slots R → Pipe → Base R S → List Call → Base R S → List Call → Type 0
   Pulled slots pipe old log new more =
       HasPulled (plans.world sources) facts (λ w. is_covered_pipe (plans.world sources) w (values_in slots) pipe)
       (kept_stream t.table_of r.shown pipe.plan old).0 log (kept_stream t.table_of r.shown pipe.plan new).0 more

@@ -11,23 +11,24 @@ use Rattle.lq_language.specs.TableRows.{cell_named}
 use Rattle.lq_language.specs.Typing.{are_distinct}
 use Rattle.lq_plan.specs.declared.tables.TableRows.{TableRows}
 
-module _ {R : Type 0} where
-  abbrev pub schemas_in : List (TableRows R) → List Schema
-  schemas_in tables = map (λ t. t.schema.now) tables
+abbrev pub schemas_in : {S : Type 0} → List (TableRows S) → List Schema
+schemas_in tables = map (λ t. t.schema.now) tables
 
-  abbrev pub rows_in : List (TableRows R) → List (List R)
-  rows_in tables = map (λ t. t.rows.now) tables
+module _ {R S : Type 0} where
+  -- the rows of each table, where a reader tells those that it has left
+  abbrev pub rows_in : (S → List R) → List (TableRows S) → List (List R)
+  rows_in left tables = map (λ t. left t.rows) tables
 
   -- a row's cell by its column's name, where rows tell the numbers of their tables and their cells
-  abbrev pub cell_of : (R → ℕ) → (R → List Scalar) → List (TableRows R) → R → List ℕ → Option Scalar
+  abbrev pub cell_of : (R → ℕ) → (R → List Scalar) → List (TableRows S) → R → List ℕ → Option Scalar
   cell_of table_of shown tables r = cell_named (columns_in (slice_get (schemas_in tables) (table_of r))) (shown r)
 
   -- what is read; the fault stands where an expression has no meaning
-  abbrev pub world_of : (R → ℕ) → (R → List Scalar) → List Predicate → List (TableRows R) → World R
-  world_of table_of shown predicates tables =
+  abbrev pub world_of : (R → ℕ) → (R → List Scalar) → (S → List R) → List Predicate → List (TableRows S) → World R
+  world_of table_of shown left predicates tables =
       record {
         schemas = schemas_in tables;
-        rows = rows_in tables;
+        rows = rows_in left tables;
         predicates = predicates;
         session = [];
         cell = cell_of table_of shown tables;

@@ -1,17 +1,65 @@
 //! Bases: the rows of a table or the items of a sequence, which are taken one by one.
-ghost use Rattle.std.specs.Prelude.{[], map};
+ghost use Rattle.std.specs.Prelude.{◌≡◌, map};
 ghost use Rattle.lq_value.specs.declared.value.Value.TheVariants as value;
 
 use crate::plans::Plan;
+use crate::rows::Rows;
 use crate::tables::TableRow;
 use lq_value::{End, List, RowRef, Value};
 use std::alloc::Global;
+use std::marker::{Model, PhantomData};
+
+/// A reader of rows, if there is one. Contracts see the rows that it has left.
+#[derive(Drop)]
+pub struct Left<R, S: Rows<R>> {
+    reader: Option<S>,
+    rows: PhantomData<R>,
+}
+
+impl<R, S: Rows<R>> Model for Left<R, S> {
+    ghost use Rattle.std.specs.Prelude.{List};
+    ghost use Rattle.std.specs.Coded.{coded_list};
+    ghost use Rattle.lq_plan.specs.Bases.{rows_by};
+
+    ghost Value = { List R };
+
+    ghost coded = { coded_list R.code };
+
+    ghost view = { λ l. rows_by S.left l.reader };
+}
+
+impl<R, S: Rows<R>> Left<R, S> {
+    ghost use Rattle.std.specs.Prelude.{◌≡◌, ◌∷◌, [], MatchOption};
+    ghost use Rattle.lq_plan.specs.Bases.{rows_by};
+
+    /// What this reader has left; nothing where there is none.
+    fn new(reader: Option<S>) -> Left<R, S>
+        ensures { result ≡ rows_by S.left reader }
+    {
+        Left {
+            reader,
+            rows: PhantomData,
+        }
+    }
+
+    /// The next row, if there is one.
+    #[inline]
+    fn next_row(&mut self) -> Option<R>
+        ensures { MatchOption result ((self.old ≡ []) × (self.new ≡ []))
+            (λ row. self.old ≡ row ∷ self.new) }
+    {
+        match &mut self.reader {
+            Some(reader) => reader.next_row(),
+            None => None,
+        }
+    }
+}
 
 /// Where items come from: rows of a table, where they stand, or items that were made. The next of
 /// these stands last.
 #[derive(Drop)]
-pub struct Base<'a, R> {
-    rows: &'a [R],
+pub struct Base<R, S: Rows<R>> {
+    rows: Left<R, S>,
     items: Vec<Value<R>>,
     end: End,
 }
@@ -25,32 +73,37 @@ pub enum Pulled<R> {
     Item(Value<R>),
 }
 
-impl<'a, R: RowRef> Base<'a, R> {
+impl<R: RowRef, S: Rows<R>> Base<R, S> {
     ghost use Rattle.std.specs.Prelude.{◌≡◌};
+    ghost use Rattle.lq_plan.specs.Bases.{rows_by};
     ghost use Rattle.lq_plan.specs.Pulling.{base_stream};
 
-    /// The rows of a table, behind which they end so.
+    /// The rows that a reader hands out, behind which they end so; none where there is no reader.
     #[tactic(auto, using(crate::proofs::BaseLemmas::rows_alone))]
-    pub(crate) fn of_rows(alloc: Global, rows: &'a [R], end: End) -> Base<'a, R>
-        ensures { base_stream result ≡ (map value.Row rows.now, end) }
+    pub(crate) fn of_rows(alloc: Global, rows: Option<S>, end: End) -> Base<R, S>
+        ensures { base_stream result ≡ (map value.Row (rows_by S.left rows), end) }
     {
+        let rows = Left::new(rows);
         let items = Vec::new(alloc);
         Base { rows, items, end }
     }
 
     /// Items that were made, and how they end. Takes no memory.
     #[tactic(auto, using(crate::proofs::BaseLemmas::turned))]
-    pub fn of_items(items: List<Value<R>>, end: End) -> Base<'a, R>
+    pub fn of_items(items: List<Value<R>>, end: End) -> Base<R, S>
         ensures { base_stream result ≡ (items, end) }
     {
         let mut items = items.into_vec();
         items.reverse();
-        let rows: &[R] = &[];
-        Base { rows, items, end }
+        Base {
+            rows: Left::new(None),
+            items,
+            end,
+        }
     }
 }
 
-impl<'a, R: TableRow> Base<'a, R> {
+impl<R: TableRow, S: Rows<R>> Base<R, S> {
     ghost use Rattle.std.specs.Prelude.{◌≡◌, [], IfOk, IfErr};
     ghost use Rattle.lq_language.specs.Enumerable.{in_front};
     ghost use Rattle.lq_plan.specs.PlannedRows.{IsPulled, kept_stream, pulled_value};
@@ -59,7 +112,7 @@ impl<'a, R: TableRow> Base<'a, R> {
     #[inline]
     #[tactic(auto, using(crate::proofs::BaseLemmas::last_kept))]
     fn pull_item(&mut self, plan: &Plan) -> Result<Pulled<R>, End>
-        requires { self.old.rows.now ≡ [] }
+        requires { self.old.rows ≡ [] }
         ensures item { IfOk result (λ pulled. kept_stream R.table_of R.shown plan.now self.old
             ≡ in_front (pulled_value pulled) (kept_stream R.table_of R.shown plan.now self.new)) }
         ensures planned { IfOk result (IsPulled R.table_of R.shown plan.now) }
@@ -87,12 +140,11 @@ impl<'a, R: TableRow> Base<'a, R> {
         ensures over { IfErr result (λ e. (kept_stream R.table_of R.shown plan.now self.new).0
             ≡ []) }
     {
-        while let [row, further @ ..] = self.rows {
-            self.rows = further;
-            match plan.verdict(row) {
-                Some(true) => return Ok(Pulled::Row(*row)),
+        while let Some(row) = self.rows.next_row() {
+            match plan.verdict(&row) {
+                Some(true) => return Ok(Pulled::Row(row)),
                 Some(false) => {}
-                None => return Ok(Pulled::Item(Value::Row(*row))),
+                None => return Ok(Pulled::Item(Value::Row(row))),
             }
         }
         self.pull_item(plan)

@@ -6,6 +6,7 @@ ghost use Rattle.lq_language.specs.Operations.{of_two, on_ok, searched, truth_of
 
 use crate::pipes::Pipe;
 use crate::plans::Plan;
+use crate::rows::Rows;
 use crate::scalars;
 use crate::slots::Slots;
 use crate::sources::Sources;
@@ -44,7 +45,7 @@ fn search_of(op: Op) -> Option<Op>
     }
 }
 
-impl<'a, R: TableRow, H: Asks> Sources<'a, R, H> {
+impl<'a, R: TableRow, S: Rows<R>, H: Asks> Sources<'a, R, S, H> {
     ghost use Rattle.std.specs.Prelude.{◌≡◌, IfOk, IfSome};
     ghost use Rattle.lq_tree.specs.declared.tree.Form.TheVariants as form;
     ghost use Rattle.lq_plan.specs.Meanings.{items_meant};
@@ -329,15 +330,11 @@ impl<'a, R: TableRow, H: Asks> Sources<'a, R, H> {
         Ok(self.pipe(Stage::Plain, source, slots)?)
     }
 
-    /// What can be found out once about a condition on rows, which stand in its first slot: a plan for the
-    /// table of the first of them. Refused where no memory was left.
-    pub fn plan_rows(&self, condition: &Form, rows: &[R]) -> Result<Plan, AllocError>
+    /// What can be found out once about a condition on the rows of a table, which stand in its first slot.
+    /// Refused where no memory was left.
+    pub fn plan_rows(&self, condition: &Form, table: TableNumber) -> Result<Plan, AllocError>
         ensures { IfOk result (PlansRows self.now condition.now) }
     {
-        let table = match rows.first() {
-            Some(row) => row.table(),
-            None => 0,
-        };
         let condition = self.condition(condition, table, &Slots::Empty)?;
         Ok(Plan {
             table,

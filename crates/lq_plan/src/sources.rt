@@ -7,6 +7,7 @@ ghost use Rattle.lq_plan.specs.Worlds.{HaveDistinctColumns, world_of};
 
 use crate::bases::Base;
 use crate::parts::{self, Part};
+use crate::rows::Rows;
 use crate::scalars;
 use crate::slots::Slots;
 use crate::tables::{TableRow, TableRows, cell};
@@ -18,6 +19,7 @@ use lq_value::{
     ColumnNumber, End, Fault, List, RowRef, Scalar, TableNumber, Value, copy, copy_scalar,
 };
 use std::alloc::{AllocError, Global};
+use std::marker::PhantomData;
 
 /// What a form means, where it is a slot or the first or second part of what another such form
 /// means: the value stays where it is. None for every other form, which has to be evaluated, and where
@@ -48,19 +50,20 @@ fn scalar_in_value<R: RowRef>(operand: &Value<R>) -> Option<&Scalar>
 /// What forms are run over: the tables that they may read, no two columns of one of which have the
 /// same name, the host predicates that they may ask, and what gives memory.
 #[derive(Drop)]
-pub struct Sources<'a, R: TableRow, H: Asks> {
+pub struct Sources<'a, R: TableRow, S: Rows<R>, H: Asks> {
     /// What gives memory.
     pub alloc: Global,
     /// The tables, by their numbers.
-    pub tables: &'a [TableRows<'a, R>],
+    pub tables: &'a [TableRows<'a, S>],
     /// The host predicates, by their numbers.
     pub hosts: &'a H,
+    rows: PhantomData<R>,
     ghost distinct: { HaveDistinctColumns
-        (world_of R.table_of R.shown (H.known hosts.now) tables.now).schemas },
+        (world_of R.table_of R.shown S.left (H.known hosts.now) tables.now).schemas },
 }
 
-impl<'a, R: TableRow, H: Asks> Sources<'a, R, H> {
-    ghost use Rattle.std.specs.Prelude.{◌≡◌, IfOk, List, Ok, slice_get, true};
+impl<'a, R: TableRow, S: Rows<R>, H: Asks> Sources<'a, R, S, H> {
+    ghost use Rattle.std.specs.Prelude.{◌≡◌, IfOk, List, Ok, map, slice_get, true};
     ghost use Rattle.lq_value.specs.declared.value.Value.{out-Value};
     ghost use Rattle.lq_language.specs.OperandMeaning.{stream_of, table_value};
     ghost use Rattle.lq_operators.specs.Answers.{IsAnswer};
@@ -70,6 +73,7 @@ impl<'a, R: TableRow, H: Asks> Sources<'a, R, H> {
     ghost use Rattle.lq_plan.specs.Parts.{part_of};
     ghost use Rattle.lq_host.specs.declared.call.Call.{Call};
     ghost use Rattle.lq_tree.specs.Watches.{Watch, has_watched_rows};
+    ghost use Rattle.lq_plan.specs.Bases.{rows_by};
     ghost use Rattle.lq_plan.specs.Plans.{world};
     ghost use Rattle.lq_plan.specs.Watching.{Grown, covers_part};
     ghost use Rattle.lq_plan.specs.Pulling.{base_stream, end_of, rows_or_none};
@@ -77,14 +81,15 @@ impl<'a, R: TableRow, H: Asks> Sources<'a, R, H> {
     ghost use Rattle.lq_plan.specs.Worlds.{HaveDistinctColumns, rows_in, schemas_in, world_of};
 
     /// These tables, these host predicates, and memory from here.
-    pub fn new(alloc: Global, tables: &'a [TableRows<'a, R>], hosts: &'a H) -> Sources<'a, R, H>
+    pub fn new(alloc: Global, tables: &'a [TableRows<'a, S>], hosts: &'a H) -> Sources<'a, R, S, H>
         requires { HaveDistinctColumns (schemas_in tables.now) }
-        ensures { world result ≡ world_of R.table_of R.shown (H.known hosts.now) tables.now }
+        ensures { world result ≡ world_of R.table_of R.shown S.left (H.known hosts.now) tables.now }
     {
         Sources {
             alloc,
             tables,
             hosts,
+            rows: PhantomData,
         }
     }
 
@@ -109,6 +114,17 @@ impl<'a, R: TableRow, H: Asks> Sources<'a, R, H> {
         }
     }
 
+    /// The rows that a reader has left, as values. Refused where no memory was left.
+    fn values_left(&self, reader: &mut S) -> Result<List<Value<R>>, AllocError>
+        ensures { IfOk result (λ values. values ≡ map value.Row (S.left reader.old)) }
+    {
+        let mut values = List::new(self.alloc);
+        while let Some(row) = reader.next_row() {
+            values.push(Value::Row(row))?;
+        }
+        Ok(values)
+    }
+
     /// The rows of a table as a sequence, or the fault of a form without meaning where there is no such
     /// table: no typed tree has one. `Memory` where none was left.
     #[inline(never)]
@@ -120,28 +136,26 @@ impl<'a, R: TableRow, H: Asks> Sources<'a, R, H> {
         let Some(table) = self.tables.get(number as usize) else {
             return Err(RunError::Fault(Fault::NullReference));
         };
-        let mut rows = List::new(self.alloc);
-        for row in table.rows {
-            rows.push(Value::Row(*row))?;
-        }
-        Ok(Value::Seq(rows, End::Done))
+        let values = self.values_left(&mut table.rows.reopened())?;
+        Ok(Value::Seq(values, End::Done))
     }
 
-    /// The rows of a table; none of a table that isn't there.
+    /// What hands out the rows of a table; none of a table that isn't there.
     #[tactic(auto, using(crate::proofs::PartLemmas::places))]
-    fn rows_at(&self, number: TableNumber) -> &'a [R]
-        ensures { result.now ≡ rows_or_none (slice_get (rows_in self.now.tables.now) number) }
+    fn reader_at(&self, number: TableNumber) -> Option<S>
+        ensures { rows_by S.left result ≡ rows_or_none
+            (slice_get (rows_in S.left self.now.tables.now) number) }
     {
         match self.tables.get(number as usize) {
-            Some(table) => table.rows,
-            None => &[],
+            Some(table) => Some(table.rows.reopened()),
+            None => None,
         }
     }
 
     /// How the rows of a table end: with a fault where it isn't there.
     #[tactic(auto, using(crate::proofs::PartLemmas::places))]
     fn end_at(&self, number: TableNumber) -> End
-        ensures { result ≡ end_of (slice_get (rows_in self.now.tables.now) number) }
+        ensures { result ≡ end_of (slice_get (rows_in S.left self.now.tables.now) number) }
     {
         match self.tables.get(number as usize) {
             Some(_) => End::Done,
@@ -152,12 +166,12 @@ impl<'a, R: TableRow, H: Asks> Sources<'a, R, H> {
     /// The rows of a table where they stand, as a base whose items are taken one by one; or no row and
     /// the fault of a form without meaning where there is no such table: no typed tree has one.
     #[tactic(auto, using(crate::proofs::PullLaws::rows_found))]
-    pub fn rows_of(&self, number: TableNumber) -> Base<'a, R>
+    pub fn rows_of(&self, number: TableNumber) -> Base<R, S>
         ensures { base_stream result ≡ stream_of (world self.now)
             (table_value (world self.now) (slice_get (world self.now).rows number)) }
     {
-        let rows = self.rows_at(number);
-        Base::of_rows(self.alloc, rows, self.end_at(number))
+        let reader = self.reader_at(number);
+        Base::of_rows(self.alloc, reader, self.end_at(number))
     }
 
     /// The cell of a row, by the number of its column.

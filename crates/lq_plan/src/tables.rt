@@ -28,16 +28,16 @@ pub trait TableRow: RowRef {
 }
 
 /// A table as a tree reads it.
-#[derive(Clone, Copy)]
-pub struct TableRows<'a, R> {
+#[derive(Drop)]
+pub struct TableRows<'a, S> {
     /// What the table is called and what its rows hold.
     pub schema: &'a Schema,
-    /// Its rows, in their order: these and no others are read.
-    pub rows: &'a [R],
+    /// What hands out its rows, in their order: these and no others are read.
+    pub rows: S,
 }
 
 /// The columns of the table with this number, or none.
-fn columns<'a, R: TableRow>(tables: &[TableRows<'a, R>], table: TableNumber) -> &'a [Column]
+fn columns<'a, S>(tables: &[TableRows<'a, S>], table: TableNumber) -> &'a [Column]
     ensures { map (λ column. column.name) result.now ≡ columns_in
         (slice_get (schemas_in tables.now) table) }
 {
@@ -48,8 +48,8 @@ fn columns<'a, R: TableRow>(tables: &[TableRows<'a, R>], table: TableNumber) -> 
 }
 
 /// The name of a column, by its number.
-pub(crate) fn column_name<'a, R: TableRow>(
-    tables: &[TableRows<'a, R>],
+pub(crate) fn column_name<'a, S>(
+    tables: &[TableRows<'a, S>],
     table: TableNumber,
     column: ColumnNumber,
 ) -> Option<&'a str>
@@ -70,8 +70,8 @@ fn cell_at(cells: &[Scalar], place: ColumnNumber) -> Option<&Scalar>
 
 /// The cell of a row under the name of a column of a table, which the types of a tree make the
 /// row's own: there it stands at the column's place, since no two columns have the same name.
-pub(crate) fn cell<'r, R: TableRow>(
-    tables: &[TableRows<'_, R>],
+pub(crate) fn cell<'r, R: TableRow, S>(
+    tables: &[TableRows<'_, S>],
     row: &'r R,
     table: TableNumber,
     column: ColumnNumber,

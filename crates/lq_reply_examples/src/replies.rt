@@ -18,6 +18,10 @@ impl RowRef for NoRow {
     fn cells(&self) -> &[Scalar] {
         &[]
     }
+
+    fn again(&self) -> Self {
+        NoRow
+    }
 }
 
 /// Whether the reply has this line.

@@ -1,16 +1,16 @@
 -- What statements add to the log of host calls: calls that are allowed, of the host predicates that their expressions name.
-use Rattle.std.proofs.Common.{◌≡◌, ◌∷◌, ◌++◌, if◌then◌else◌, List, [], ℕ, Bool, true, Some, None, ap, ◌∙◌, sym, refl, subst, append_assoc, append-nil}
+use Rattle.std.proofs.Common.{◌≡◌, ◌∷◌, ◌++◌, if◌then◌else◌, List, [], map, ℕ, Bool, true, Some, None, ap, ◌∙◌, sym, refl, append_assoc}
 use Rattle.std.specs.List.{list_all}
 use Rattle.lq_value.specs.declared.ty.Ty.{out-Ty}
 use Rattle.lq_host.specs.declared.call.Call.{Call}
 use Rattle.lq_grammar.specs.declared.syntax.Expr.{Expr}
 use Rattle.lq_language.specs.Mentions.{Mention, uses_of}
+use Rattle.lq_language.specs.TableRows.{TableRow}
 use Rattle.lq_language.specs.Types.{has_place, when}
 use Rattle.lq_language.specs.Uses.{expression_uses, shown_columns}
 use Rattle.lq_language.specs.declared.rights.Use.{Use}
 use Rattle.lq_language.specs.declared.rights.Use.TheVariants as used
 use Rattle.lq_language.proofs.AlikeStreamLaws.{every_append}
-use Rattle.lq_language.proofs.ItemLaws.{every_none}
 use Rattle.lq_security.specs.Rights.{denial}
 use Rattle.lq_machine.specs.DefinitionLaws.{AreDefined}
 use Rattle.lq_machine.specs.HostCalls.{IsAllowed, deletion_named, named_if_allowed, named_now, run_named}
@@ -18,44 +18,42 @@ use Rattle.lq_machine.specs.Serving.{served_type, used_by}
 use Rattle.lq_machine.specs.States.{State, host_names, names_in, schemas_of}
 use Rattle.lq_tree.specs.AllowedCalls.{AddsOwnCalls, Tells, is_seen}
 use Rattle.lq_tree.specs.UsesOfForms.{form_uses}
-use Rattle.lq_tree.specs.Watches.{RowFacts}
 use Rattle.lq_tree.specs.declared.tree.Form.{Form}
 use Rattle.lq_tree.specs.declared.tree.Tree.{Tree}
 use Rattle.lq_tree.proofs.AllowedCallLaws.{allowed_in_condition, allowed_in_statement, named_where_allowed, own_calls_are_allowed}
 use Rattle.lq_tree.proofs.SessionPlaceLaws.{uses_of_statements}
 use Rattle.lq_use.specs.FormRights.{form_rights}
-use Rattle.lq_plan.specs.Watching.{facts_of}
-use Rattle.lq_plan.specs.Worlds.{world_of}
-use Rattle.lq_plan.specs.declared.tables.TableRows.{TableRows}
+use Rattle.lq_pull.specs.Views.{row_facts}
 use Rattle.lq_run.specs.Calls.{AddsCalls, MayDelete, condition_names}
 use Rattle.lq_run.specs.Replies.{IsTreeOf}
-use Rattle.lq_run.specs.SeenRows.{AreSeen, cells_in, number_in, shown_row}
 use Rattle.lq_run.specs.Statements.{condition_in}
-use Rattle.lq_run.specs.declared.seen.SeenRow.{SeenRow}
+use Rattle.lq_run.proofs.CallLaws.{called_as}
 use Rattle.lq_run.proofs.ReplyLemmas.{type_served, used_same}
+use Rattle.lq_run.proofs.WorldLemmas.{base}
 
--- what rows tell
-abbrev pub seen_facts : RowFacts SeenRow
-seen_facts = facts_of number_in (λ (r : SeenRow). r.row.now.number) cells_in
-
-tells : (s : State) (r : SeenRow) → Tells s seen_facts (shown_row r) r
+-- a row is what it tells
+tells : (s : State) (r : TableRow) → Tells s row_facts r r
 tells s r = record { table = refl; number = refl; cells = refl }
 
-module _ (s : State) where
-  -- nobody is asked
-  pub none_called : (named : List Mention) (log more : List Call) → more ≡ log → AddsCalls s named log more
-  none_called named log more is = ([], is ∙ sym (append-nil log), every_none (IsAllowed s named))
+-- lists of rows, each of which is itself
+rows_stay : {A : Type 0} (xs : List A) → map (λ x. x) xs ≡ xs
+rows_stay [] = refl
+rows_stay (x ∷ xs) = ap (λ (rest : List _). x ∷ rest) (rows_stay xs)
 
+lists_stay : {A : Type 0} (lists : List (List A)) → map (map (λ x. x)) lists ≡ lists
+lists_stay [] = refl
+lists_stay (xs ∷ lists) = λ i. rows_stay xs i ∷ lists_stay lists i
+
+module _ (s : State) where
   -- what is run over the rows that the role sees, with such rows in its slots
-  pub rows_called : (tables : List (TableRows SeenRow)) → AreSeen s tables → (f : Form) (rows : List SeenRow) → list_all (is_seen s seen_facts) rows ≡ true
-      → (old new : List Call) → AddsOwnCalls (world_of number_in cells_in s.predicates tables) seen_facts f rows old new → AddsCalls s (form_uses f) old new
-  rows_called tables seen f rows pass old new adds =
-      own_calls_are_allowed s seen_facts shown_row (tells s) (world_of number_in cells_in s.predicates tables) seen.rows refl f rows pass old new adds
+  pub rows_called : (f : Form) (rows : List TableRow) → list_all (is_seen s row_facts) rows ≡ true → (old new : List Call)
+      → AddsOwnCalls (base s) row_facts f rows old new → AddsCalls s (form_uses f) old new
+  rows_called f rows pass old new adds =
+      own_calls_are_allowed s row_facts (λ r. r) (tells s) (base s) (lists_stay (base s).rows) refl f rows pass old new adds
 
   -- and with none
-  pub seen_called : (tables : List (TableRows SeenRow)) → AreSeen s tables → (f : Form) (old new : List Call)
-      → AddsOwnCalls (world_of number_in cells_in s.predicates tables) seen_facts f [] old new → AddsCalls s (form_uses f) old new
-  seen_called tables seen f old new adds = rows_called tables seen f [] refl old new adds
+  pub seen_called : (f : Form) (old new : List Call) → AddsOwnCalls (base s) row_facts f [] old new → AddsCalls s (form_uses f) old new
+  seen_called f old new adds = rows_called f [] refl old new adds
 
   -- calls behind calls
   pub called_behind : (named : List Mention) (old log new : List Call) → AddsCalls s named old log → AddsCalls s named log new → AddsCalls s named old new
@@ -64,9 +62,6 @@ module _ (s : State) where
     more.1 ∙ ap (λ (l : List Call). l ++ more.0) first.1 ∙ append_assoc old first.0 more.0,
     every_append (IsAllowed s named) first.0 more.0 first.2 more.2,
   )
-
-  pub called_as : (named others : List Mention) (old new : List Call) → named ≡ others → AddsCalls s named old new → AddsCalls s others old new
-  called_as named others old new is added = subst (λ (names : List Mention). AddsCalls s names old new) is added
 
   module _ (defined : AreDefined (schemas_of s.tables) (host_names s) s.definitions) (tree : Tree) (e : Expr) (is : IsTreeOf s e tree) (old new : List Call) where
     -- a tree names what its expression names
@@ -78,7 +73,7 @@ module _ (s : State) where
         → denial s.policies s.role used ≡ None → AddsCalls s (form_uses tree.form) old new
         → AddsCalls s (run_named s e (served_type (names_in s) e)) old new
     run_called placed used uses none added =
-        called_as (expression_uses e (names_in s)) (run_named s e (served_type (names_in s) e)) old new
+        called_as s (expression_uses e (names_in s)) (run_named s e (served_type (names_in s) e)) old new
         (sym (ap (run_named s e) (type_served s e tree is ∙ ap (λ b. when b (Some tree.ty)) placed)
         ∙ named_where_allowed s (used_by (names_in s) e tree.ty) (expression_uses e (names_in s))
         (ap (denial s.policies s.role) (sym (uses ∙ used_same s defined tree placed e is)) ∙ none)))
@@ -89,7 +84,7 @@ module _ (s : State) where
         → AddsCalls s (named_now s e) old new
     unfolding form_rights
     scalar_called used uses none added =
-        called_as (expression_uses e (names_in s)) (named_now s e) old new
+        called_as s (expression_uses e (names_in s)) (named_now s e) old new
         (sym (named_where_allowed s (uses_of (expression_uses e (names_in s))) (expression_uses e (names_in s))
         (ap (denial s.policies s.role)
         (sym (uses ∙ ap uses_of (uses_of_statements (schemas_of s.tables) (host_names s) s.definitions defined e tree is))) ∙ none)))
@@ -102,6 +97,6 @@ module _ (s : State) where
   deletion_called defined n tree x e is may old new added =
       let named = expression_uses e (condition_names s x n) in
       let uses : List Use = used.Delete n ∷ uses_of named in
-      called_as named (deletion_named s x e (Some n)) old new
+      called_as s named (deletion_named s x e (Some n)) old new
       (sym (ap (λ (b : Bool). if b then named_if_allowed s uses named else []) may.0 ∙ named_where_allowed s uses named may.1))
       (added.0, added.1, allowed_in_condition s defined x n e tree is added.0 added.2)

@@ -1,7 +1,7 @@
 -- The definitions of a state, as an assignment and changes of its tables leave them.
 use Rattle.std.proofs.Common.{◌≡◌, ◌∙◌, ◌∷◌, ◌++◌, ◌<◌, if◌then◌else◌, arith, get_or, length, List, [], map, ℕ, zero, suc, Bool, true, false, Option, Some, None, IfSome, Result, Ok, Err, ap, sym, refl, subst, bytes_eq, option_and_then, option_map, set, slice_get}
 use Rattle.std.specs.List.{position_from}
-use Rattle.std.proofs.lemmas.Option.{get_or_from_slice_get, none-some, same_Some}
+use Rattle.std.proofs.lemmas.Option.{get_or_from_slice_get, none-some, same_Some, slice_get_within}
 use Rattle.lq_value.specs.Tables.{Table, first_named}
 use Rattle.lq_value.specs.declared.scalar.Scalar.{Scalar}
 use Rattle.lq_value.specs.declared.table.Schema.{Schema}
@@ -19,7 +19,6 @@ use Rattle.lq_machine.specs.declared.session.Definition.{Definition}
 use Rattle.lq_machine.proofs.KeptDefinitionLaws.{defined_behind, known_name, known_now, others_stay, renewed_after}
 use Rattle.lq_tree.proofs.TypeLaws.{later}
 use Rattle.lq_run.specs.States.{Assigns, IsValueFor, SessionState, renewed, with_value, without_hosts}
-use Rattle.lq_run.proofs.TableLemmas.{within}
 
 -- ---- assignments
 
@@ -77,7 +76,7 @@ module _ (s : SessionState) (defined : AreDefined (schemas_of s.tables) s.polici
     variable_there = sym (definition_there name s.definitions ∙ ap (option_and_then (slice_get s.definitions)) at) ∙ for.2
 
     pub place_within : i < length s.definitions
-    place_within = within s.definitions i before variable_there
+    place_within = slice_get_within s.definitions i before variable_there
 
     module _ (d : Definition) (read : d ≡ get_or s.definitions i d) (definitions : List Definition) (is : definitions ≡ set s.definitions i (with_value value d)) where
       -- with its new value there, each of its name is renewed

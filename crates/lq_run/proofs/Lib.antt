@@ -1,15 +1,12 @@
+pub mod CallLaws
 pub mod CallLemmas
-pub mod ColumnLemmas
 pub mod DefinitionLemmas
 pub mod KnownLaws
 pub mod RemovalCallLemmas
 pub mod RemovalLemmas
 pub mod ReplyLemmas
-pub mod RowLemmas
 pub mod ScalarLemmas
-pub mod SeenLemmas
 pub mod StopLaws
 pub mod StoredLaws
-pub mod TableLemmas
 pub mod TreeLemmas
 pub mod WorldLemmas

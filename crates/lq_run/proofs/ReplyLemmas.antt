@@ -1,5 +1,6 @@
 -- The reply that a tree gives is the machine's for each expression that is bound to it; and the reply of one without a tree is a refusal.
-use Rattle.std.proofs.Common.{◌≡◌, ◌∙◌, ◌++◌, List, [], ℕ, Bool, true, false, Option, Some, None, Result, Err, ap, sym, refl, codes, option_map, option_and_then}
+use Rattle.std.proofs.Common.{◌≡◌, ◌∙◌, ◌++◌, List, [], ℕ, Bool, true, false, Option, Some, None, Result, Ok, Err, IfOk, ap, sym, refl, codes, option_map, option_and_then}
+use Rattle.std.specs.declared.alloc.AllocError.{AllocError}
 use Rattle.lq_value.specs.declared.table.Schema.{Schema}
 use Rattle.lq_value.specs.declared.ty.Ty.{Ty, out-Ty}
 use Rattle.lq_value.specs.declared.ty.Ty.TheOpen.{Ty-F}
@@ -7,9 +8,10 @@ use Rattle.lq_value.specs.declared.value.Fault.{Fault}
 use Rattle.lq_value.specs.declared.value.Value.{Value}
 use Rattle.lq_language.specs.ClauseTyping.{expression_type}
 use Rattle.lq_machine.specs.DefinitionLaws.{AreDefined}
+use Rattle.lq_language.specs.OperandMeaning.{stream_of}
 use Rattle.lq_language.specs.Worlds.{World}
 use Rattle.lq_security.specs.Rights.{Denied, denial}
-use Rattle.lq_machine.specs.Served.{error_data, line_of}
+use Rattle.lq_machine.specs.Served.{error_data, line_of, stream_data, value_data}
 use Rattle.lq_machine.specs.Serving.{run_denial, run_in, run_reply, served, served_as, served_type, unless_denied, used_by}
 use Rattle.lq_machine.specs.States.{State, cells_of, host_names, names_in, schemas_of, world_in}
 use Rattle.lq_language.specs.Types.{has_place, if_placed, when}
@@ -20,20 +22,19 @@ use Rattle.lq_language.specs.Meaning.{expression_meaning}
 use Rattle.lq_language.specs.declared.rights.Use.{Use}
 use Rattle.lq_grammar.specs.declared.syntax.Expr.{Expr}
 use Rattle.lq_tree.specs.FormMeaning.{form_meaning}
+use Rattle.lq_tree.specs.declared.tree.Form.{Form}
 use Rattle.lq_tree.specs.declared.tree.Tree.{Tree}
 use Rattle.lq_tree.proofs.SessionPlaceLaws.{types_of_statements, uses_of_statements}
 use Rattle.lq_use.specs.FormRights.{form_rights}
-use Rattle.lq_plan.specs.declared.tables.TableRows.{TableRows}
+use Rattle.lq_store.specs.Rules.{IsTable}
+use Rattle.lq_language.specs.ValuesOfTypes.{Every}
 use Rattle.lq_run.specs.Replies.{IsTreeOf, ServesTree}
-use Rattle.lq_run.specs.SeenRows.{AreSeen, cells_in, shown_row}
 use Rattle.lq_run.specs.Statements.{FindsTree, HasRights, tree_in}
 use Rattle.lq_run.specs.Stops.{StopsWith}
 use Rattle.lq_run.specs.TreeReply.{data_by, tree_data}
-use Rattle.lq_run.specs.declared.seen.SeenRow.{SeenRow}
 use Rattle.lq_run.specs.declared.stop.Stop.{Stop}
 use Rattle.lq_run.specs.declared.stop.Stop.TheVariants as stop
-use Rattle.lq_run.proofs.RowLemmas.{same_reply}
-use Rattle.lq_run.proofs.WorldLemmas.{is_world, over, read, tree_means, world}
+use Rattle.lq_run.proofs.WorldLemmas.{base, is_world, means_read, stream_same, tree_means, world}
 
 -- what is answered of a type is so of the tree's
 pub told_of : (b answer : Bool) (t u : Ty) → b ≡ has_place (out-Ty t) → t ≡ u → b ≡ answer → has_place (out-Ty u) ≡ answer
@@ -52,6 +53,15 @@ module _ (s : State) where
       → data_by cells_of schemas (world s) t layer found ≡ served (world s) (when (has_place layer) (Some t)) found
   by_layer t Ty-F.Null found is = refl
   by_layer t layer found is = sym (ap (λ (l : Ty-F Ty). served_as (world s) t l found) is)
+
+  -- what is served of a form over the tables alone is served where the session's names are known, too
+  read_layer : (t : Ty) (f : Form) (layer : Ty-F Ty)
+      → data_by cells_of schemas (base s) t layer (form_meaning (base s) f []) ≡ data_by cells_of schemas (world s) t layer (form_meaning (world s) f [])
+  read_layer t f Ty-F.Null = refl
+  read_layer t f (Ty-F.Seq item) =
+      ap (stream_data schemas cells_of item)
+      (stream_same (base s) (world_in s).session (form_meaning (base s) f []) ∙ ap (stream_of (world s)) (sym (means_read s f [])))
+  read_layer t f layer = ap (value_data schemas cells_of t) (sym (means_read s f []))
 
   -- the type that an expression is served by
   pub type_served : (e : Expr) (tree : Tree) → IsTreeOf s e tree → served_type (names_in s) e ≡ when (has_place (out-Ty tree.ty)) (Some tree.ty)
@@ -110,19 +120,24 @@ module _ (s : State) where
       denied_answered (stop.Answer line) denied = denied.2 ∙ ap line_of (answer_by (Some denied.0) denied.1)
       denied_answered stop.Memory denied = tt
 
-  module _ (tables : List (TableRows SeenRow)) (seen : AreSeen s tables) where
+  module _ (defined : AreDefined schemas (host_names s) s.definitions) where
     -- the reply of the tree is the machine's
-    tree_reply : (e : Expr) (tree : Tree) → IsTreeOf s e tree → tree_data cells_of schemas (world s) tree ≡ run_reply (names_in s) (world_in s) e
+    tree_reply : Every IsTable s.tables → (e : Expr) (tree : Tree) → IsTreeOf s e tree → tree_data cells_of schemas (world s) tree ≡ run_reply (names_in s) (world_in s) e
     unfolding run_reply
-    tree_reply e tree is =
+    tree_reply kept e tree is =
         by_layer tree.ty (out-Ty tree.ty) (form_meaning (world s) tree.form []) refl
         ∙ ap (λ (o : Option Ty). served (world s) o (form_meaning (world s) tree.form [])) (sym (type_served e tree is))
-        ∙ ap (served (world s) (served_type (names_in s) e)) (tree_means s seen.are_tables seen.defined e tree is)
+        ∙ ap (served (world s) (served_type (names_in s) e)) (tree_means s kept defined e tree is)
         ∙ ap (λ (w : World TableRow). served w (served_type (names_in s) e) (expression_meaning (world_in s) e [])) (sym (is_world s))
 
     -- so a run's line is the machine's
-    pub serves_tree : (tree : Tree) (line : List ℕ) → line ≡ line_of (tree_data cells_in schemas (read s tables seen) tree) → ServesTree s tree line
-    serves_tree tree line so e is =
+    serves_tree : Every IsTable s.tables → (tree : Tree) (line : List ℕ) → line ≡ line_of (tree_data cells_of schemas (base s) tree) → ServesTree s tree line
+    serves_tree kept tree line so e is =
         so
-        ∙ ap line_of (sym (same_reply shown_row (read s tables seen) (world s) (over s tables seen) cells_in cells_of (λ r. refl) schemas tree))
-        ∙ ap line_of (tree_reply e tree is)
+        ∙ ap line_of (read_layer tree.ty tree.form (out-Ty tree.ty))
+        ∙ ap line_of (tree_reply kept e tree is)
+
+    pub serves_result : (tree : Tree) (result : Result (List ℕ) AllocError) → IfOk result (λ line. line ≡ line_of (tree_data cells_of schemas (base s) tree))
+        → IfOk result (λ line. Every IsTable s.tables) → IfOk result (ServesTree s tree)
+    serves_result tree (Ok line) so kept = serves_tree kept tree line so
+    serves_result tree (Err e) so kept = tt

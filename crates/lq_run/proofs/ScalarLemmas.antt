@@ -9,7 +9,7 @@ use Rattle.lq_value.specs.declared.value.Value.{Value, out-Value}
 use Rattle.lq_value.specs.declared.value.Value.TheOpen.{Value-F}
 use Rattle.lq_value.specs.declared.value.Value.TheVariants.{outs-Scalar}
 use Rattle.lq_machine.specs.DefinitionLaws.{AreDefined}
-use Rattle.lq_language.specs.ValuesOfTypes.{IsScalarOf}
+use Rattle.lq_language.specs.ValuesOfTypes.{Every, IsScalarOf}
 use Rattle.lq_security.specs.Rights.{Denied, denial}
 use Rattle.lq_machine.specs.Served.{error_data, fault_data}
 use Rattle.lq_machine.specs.States.{State, host_names, names_in, schemas_of, world_in}
@@ -22,21 +22,16 @@ use Rattle.lq_language.specs.declared.rights.Use.{Use}
 use Rattle.lq_grammar.specs.declared.syntax.Expr.{Expr}
 use Rattle.lq_language.proofs.ValueLaws.{is_plain, plain_value}
 use Rattle.lq_tree.specs.FormMeaning.{form_meaning}
-use Rattle.lq_tree.specs.Rows.{mapped, result_map}
 use Rattle.lq_tree.specs.declared.tree.Tree.{Tree}
-use Rattle.lq_tree.proofs.MappedValueLaws.{mapped_layer, mapped_out}
-use Rattle.lq_tree.proofs.RowFormLaws.{means_alike}
 use Rattle.lq_tree.proofs.ScopeLaws.{append_none}
 use Rattle.lq_tree.proofs.SessionPlaceLaws.{uses_of_statements}
 use Rattle.lq_use.specs.FormRights.{form_rights}
-use Rattle.lq_plan.specs.declared.tables.TableRows.{TableRows}
-use Rattle.lq_run.specs.SeenRows.{AreSeen, shown_row}
+use Rattle.lq_store.specs.Rules.{IsTable}
 use Rattle.lq_run.specs.Statements.{EvaluatesTree, HasRights, IsEvaluated, Yields, YieldsTree, is_of_scalars, scalar_in, tree_in}
 use Rattle.lq_run.specs.Stops.{Stops, StopsWith}
-use Rattle.lq_run.specs.declared.seen.SeenRow.{SeenRow}
 use Rattle.lq_run.specs.declared.stop.Stop.{Stop}
 use Rattle.lq_run.proofs.StopLaws.{same_stop, stops_denied, stops_with}
-use Rattle.lq_run.proofs.WorldLemmas.{over, read, tree_means, tree_values, world}
+use Rattle.lq_run.proofs.WorldLemmas.{base, means_read, tree_means, tree_values, world}
 
 -- these types have no other values
 scalar_plain : (layer : Ty-F Ty) → is_of_scalars layer ≡ true → is_plain layer ≡ true
@@ -54,46 +49,43 @@ scalar_layer layer scalar is = absurd (none-some scalar (sym is))
 
 module _ (s : State) where
   -- no other value is stored
-  other_layer : (next : Scalar → Outcome) (layer : Value-F SeenRow (Value SeenRow)) → None ≡ scalar_in layer
-      → with_scalar s next (mapped_layer shown_row layer) ≡ refused s (codes "type")
+  other_layer : (next : Scalar → Outcome) (layer : Value-F TableRow (Value TableRow)) → None ≡ scalar_in layer
+      → with_scalar s next layer ≡ refused s (codes "type")
   other_layer next (Value-F.Scalar found) is = absurd (none-some found is)
   other_layer next (Value-F.Row r) is = refl
   other_layer next (Value-F.Rec members) is = refl
   other_layer next (Value-F.Group key items) is = refl
   other_layer next (Value-F.Seq items e) is = refl
 
-  module _ (tables : List (TableRows SeenRow)) (seen : AreSeen s tables) (tree : Tree) where
+  module _ (kept : Every IsTable s.tables) (defined : AreDefined (schemas_of s.tables) (host_names s) s.definitions) (tree : Tree) where
     -- what the tree means over the rows that are read, the expression means to the machine
-    expression_means : (e : Expr) → tree_in s e ≡ Some tree → (m : Result (Value SeenRow) Fault) → form_meaning (read s tables seen) tree.form [] ≡ m
-        → expression_meaning (world_in s) e [] ≡ result_map (mapped shown_row) m
+    expression_means : (e : Expr) → tree_in s e ≡ Some tree → (m : Result (Value TableRow) Fault) → form_meaning (base s) tree.form [] ≡ m
+        → expression_meaning (world_in s) e [] ≡ m
     expression_means e is m found =
-        sym (tree_means s seen.are_tables seen.defined e tree is) ∙ means_alike shown_row (read s tables seen) (world s) (over s tables seen) tree.form []
-        ∙ ap (result_map (mapped shown_row)) found
+        sym (tree_means s kept defined e tree is) ∙ means_read s tree.form [] ∙ found
 
-    pub yields_fault : (f : Fault) (why : Stop) → form_meaning (read s tables seen) tree.form [] ≡ Err f → StopsWith (fault_data f) why
+    pub yields_fault : (f : Fault) (why : Stop) → form_meaning (base s) tree.form [] ≡ Err f → StopsWith (fault_data f) why
         → YieldsTree s tree (Err why)
     yields_fault f why found so e is next =
         stops_with s (fault_data f) (with_value s next (expression_meaning (world_in s) e [])) why
         (ap (with_value s next) (expression_means e is (Err f) found)) so
 
-    pub yields_other : (v : Value SeenRow) (why : Stop) → form_meaning (read s tables seen) tree.form [] ≡ Ok v → None ≡ scalar_in (out-Value SeenRow v)
+    pub yields_other : (v : Value TableRow) (why : Stop) → form_meaning (base s) tree.form [] ≡ Ok v → None ≡ scalar_in (out-Value TableRow v)
         → StopsWith (error_data (codes "type")) why → YieldsTree s tree (Err why)
     yields_other v why found none so e is next =
         stops_with s (error_data (codes "type")) (with_value s next (expression_meaning (world_in s) e [])) why
-        (ap (with_value s next) (expression_means e is (Ok v) found) ∙ ap (with_scalar s next) (mapped_out shown_row v)
-        ∙ other_layer next (out-Value SeenRow v) none)
+        (ap (with_value s next) (expression_means e is (Ok v) found) ∙ other_layer next (out-Value TableRow v) none)
         so
 
-    pub yields_scalar : is_of_scalars (out-Ty tree.ty) ≡ true → (v : Value SeenRow) (scalar : Scalar) → form_meaning (read s tables seen) tree.form [] ≡ Ok v
-        → Some scalar ≡ scalar_in (out-Value SeenRow v) → YieldsTree s tree (Ok scalar)
+    pub yields_scalar : is_of_scalars (out-Ty tree.ty) ≡ true → (v : Value TableRow) (scalar : Scalar) → form_meaning (base s) tree.form [] ≡ Ok v
+        → Some scalar ≡ scalar_in (out-Value TableRow v) → YieldsTree s tree (Ok scalar)
     yields_scalar typed v scalar found there e is =
-        let layer : out-Value TableRow (mapped shown_row v) ≡ Value-F.Scalar scalar =
-        mapped_out shown_row v ∙ ap (mapped_layer shown_row) (scalar_layer (out-Value SeenRow v) scalar there) in
+        let layer : out-Value TableRow v ≡ Value-F.Scalar scalar = scalar_layer (out-Value TableRow v) scalar there in
         let means = expression_means e is (Ok v) found in
         let plain =
-        plain_value (world s) tree.ty (mapped shown_row v) (scalar_plain (out-Ty tree.ty) typed)
-        (tree_values s seen.are_tables seen.defined e tree is (mapped shown_row v) (tree_means s seen.are_tables seen.defined e tree is ∙ means)) in
-        let other : out-Value TableRow (mapped shown_row v) ≡ Value-F.Scalar plain.0 = ap (out-Value TableRow) plain.1 ∙ outs-Scalar plain.0 in
+        plain_value (world s) tree.ty v (scalar_plain (out-Ty tree.ty) typed)
+        (tree_values s kept defined e tree is v (tree_means s kept defined e tree is ∙ means)) in
+        let other : out-Value TableRow v ≡ Value-F.Scalar plain.0 = ap (out-Value TableRow) plain.1 ∙ outs-Scalar plain.0 in
         let same : plain.0 ≡ scalar = cc in (
           λ next. ap (with_value s next) means ∙ ap (with_scalar s next) layer,
           subst (λ (found : Scalar). IsScalarOf (out-Ty tree.ty) found) same plain.2,

@@ -1,20 +1,23 @@
 -- What the trees of statements mean over the rows that a role sees: what their expressions mean to the machine.
-use Rattle.std.proofs.Common.{◌≡◌, ◌∙◌, ◌∷◌, List, [], ℕ, Some, Ok, ap, sym, refl, subst, slice_get}
-use Rattle.lq_value.specs.declared.table.Schema.{Schema}
+use Rattle.std.proofs.Common.{◌≡◌, ◌∙◌, ◌∷◌, List, [], ℕ, Some, Result, Ok, Err, ap, sym, refl, subst}
+use Rattle.lq_value.specs.declared.scalar.Scalar.{Scalar}
 use Rattle.lq_value.specs.declared.ty.Ty.TheVariants as ty
 use Rattle.lq_value.specs.declared.ty.Ty.TheVariants.{outs-Row}
+use Rattle.lq_value.specs.declared.value.Fault.{Fault}
 use Rattle.lq_value.specs.declared.value.Fault.TheVariants as fault
-use Rattle.lq_value.specs.declared.value.Value.{Value}
+use Rattle.lq_value.specs.declared.value.Value.{Value, out-Value}
+use Rattle.lq_value.specs.declared.value.Value.TheOpen.{Value-F}
 use Rattle.lq_value.specs.declared.value.Value.TheVariants as value
 use Rattle.lq_store.specs.Rules.{IsTable}
 use Rattle.lq_machine.specs.DefinitionLaws.{AreDefined}
 use Rattle.lq_machine.specs.Definitions.{with_session}
-use Rattle.lq_language.specs.Worlds.{Binding, World, bound}
+use Rattle.lq_language.specs.Worlds.{Binding, SessionValue, World, bound}
+use Rattle.lq_language.specs.OperandMeaning.{items_of, on_scalar, scalar_of, stream_of}
+use Rattle.lq_language.specs.Operations.{on_ok, truth_of}
 use Rattle.lq_language.specs.ValuesOfTypes.{Every, HasCells, HoldsRows}
 use Rattle.lq_language.specs.Operators.{One}
-use Rattle.lq_machine.specs.Served.{columns_in}
 use Rattle.lq_machine.specs.States.{State, host_names, schemas_of, seen_by_role, world_in, world_of}
-use Rattle.lq_language.specs.TableRows.{TableRow, cell_named}
+use Rattle.lq_language.specs.TableRows.{TableRow}
 use Rattle.lq_language.specs.Meaning.{expression_meaning}
 use Rattle.lq_language.specs.MeaningLaws.{IsSessionOfValues, IsValueOf, by_row}
 use Rattle.lq_grammar.specs.declared.syntax.Expr.{Expr}
@@ -24,24 +27,41 @@ use Rattle.lq_machine.proofs.SeenTableLaws.{holds_seen}
 use Rattle.lq_translate.specs.Translated.{translated}
 use Rattle.lq_translate.proofs.AlikeTermLaws.{terms_mean}
 use Rattle.lq_tree.specs.BindingLaws.{GivesAll}
-use Rattle.lq_tree.specs.FormMeaning.{form_meaning}
+use Rattle.lq_tree.specs.FormMeaning.{Slots, form_meaning}
 use Rattle.lq_tree.specs.Places.{Places, with_name}
-use Rattle.lq_tree.specs.Rows.{OverRows}
 use Rattle.lq_tree.specs.SessionPlaces.{session_places, statement_places}
+use Rattle.lq_tree.specs.declared.tree.Form.{Form}
 use Rattle.lq_tree.specs.declared.tree.Tree.{Tree}
 use Rattle.lq_tree.proofs.ScopeLaws.{Stands, item_stands}
 use Rattle.lq_tree.proofs.SessionValueLaws.{defines_names_alone, means_without, meanings_of_statements, places_give}
 use Rattle.lq_tree.proofs.TermMeanLaws.{meanings_same}
-use Rattle.lq_plan.specs.Worlds.{world_of as world_of_tables}
-use Rattle.lq_plan.specs.declared.tables.TableRows.{TableRows}
-use Rattle.lq_run.specs.SeenRows.{AreSeen, cells_in, number_in, shown_row}
+use Rattle.lq_pipe.specs.Conditions.{holds_on}
 use Rattle.lq_run.specs.Statements.{condition_in, tree_in}
-use Rattle.lq_run.specs.declared.seen.SeenRow.{SeenRow}
 use Rattle.lq_run.proofs.StoredLaws.{typed_tables}
+
+-- what values are read as depends on the fault of a world alone, and not on the names of a session
+module _ {R : Type 0} (world : World R) (session : List (SessionValue R)) where
+  scalar_same : (layer : Value-F R (Value R)) → scalar_of world layer ≡ scalar_of (with_session world session) layer
+  scalar_same (Value-F.Scalar s) = refl
+  scalar_same layer = refl
+
+  pub truth_same : (found : Result (Value R) Fault)
+      → on_scalar world found (truth_of world.unknown) ≡ on_scalar (with_session world session) found (truth_of world.unknown)
+  truth_same (Ok v) = ap (λ (s : Result Scalar Fault). on_ok s (truth_of world.unknown)) (scalar_same (out-Value R v))
+  truth_same (Err f) = refl
+
+  items_same : (layer : Value-F R (Value R)) → items_of world layer ≡ items_of (with_session world session) layer
+  items_same (Value-F.Seq xs e) = refl
+  items_same (Value-F.Group key xs) = refl
+  items_same layer = refl
+
+  pub stream_same : (found : Result (Value R) Fault) → stream_of world found ≡ stream_of (with_session world session) found
+  stream_same (Ok v) = items_same (out-Value R v)
+  stream_same (Err f) = refl
 
 module _ (s : State) where
   -- the tables as the role sees them, without names of the session, and with them
-  abbrev base : World TableRow
+  abbrev pub base : World TableRow
   base = world_of (schemas_of s.tables) s.predicates (seen_by_role s)
 
   abbrev pub world : World TableRow
@@ -53,19 +73,16 @@ module _ (s : State) where
   abbrev places : Places
   places = statement_places (schemas_of s.tables) (host_names s) s.definitions
 
-  -- the rows of the tables that a statement reads are those of the machine
-  module _ (tables : List (TableRows SeenRow)) (seen : AreSeen s tables) where
-    abbrev pub read : World SeenRow
-    read = world_of_tables number_in cells_in s.predicates tables
+  -- no form reads a name of the session
+  pub means_read : (f : Form) (slots : Slots TableRow) → form_meaning world f slots ≡ form_meaning base f slots
+  means_read f slots = means_without base (world_in s).session f slots
 
-    pub same_cells : (r : SeenRow) (column : List ℕ) → world.cell (shown_row r) column ≡ read.cell r column
-    same_cells r column = ap (λ (given : List Schema). cell_named (columns_in (slice_get given r.table)) r.row.now.cells column) (sym seen.schemas)
-
-    pub same_tables : (r : SeenRow) → world.table (shown_row r) ≡ read.table r
-    same_tables r = refl
-
-    pub over : OverRows shown_row read world
-    over = record { schemas = sym seen.schemas; rows = sym seen.rows; cells = same_cells; tables = same_tables; predicates = refl; unknown = refl }
+  -- so a condition is true on a row where it is to the machine
+  pub read_holds : (f : Form) (r : TableRow) → holds_on base f r ≡ holds_on world f r
+  read_holds f r =
+      truth_same base (world_in s).session (form_meaning base f (value.Row r ∷ []))
+      ∙ ap (λ (found : Result (Value TableRow) Fault). on_scalar world found (truth_of world.unknown))
+      (sym (means_read f (value.Row r ∷ [])))
 
   module _ (kept : Every IsTable s.tables) (defined : AreDefined (schemas_of s.tables) (host_names s) s.definitions) where
     holds : HoldsRows world

@@ -1,7 +1,6 @@
 pub mod Calls
 pub mod Removals
 pub mod Replies
-pub mod SeenRows
 pub mod States
 pub mod Statements
 pub mod Stops

@@ -15,6 +15,7 @@ use Rattle.lq_machine.specs.States.{State}
 use Rattle.lq_machine.specs.declared.session.Defined.{Defined}
 use Rattle.lq_machine.specs.declared.session.Defined.TheVariants as of
 use Rattle.lq_machine.specs.declared.session.Definition.{Definition}
+use Rattle.lq_pull.specs.Views.{Sight}
 
 -- The tables, the policies, the number of the role, and what `var` statements defined, the oldest first. The host predicates stand beside it,
 -- since they hold closures; the policies have their names.
@@ -33,6 +34,13 @@ state_with predicates s = record {
   role = s.role;
   definitions = s.definitions;
 }
+
+-- the tables, the policies and the role: what queries read of it
+abbrev pub sight : SessionState → Sight
+sight s = record { tables = s.tables; policies = s.policies; role = s.role }
+
+abbrev pub sight_in : State → Sight
+sight_in s = record { tables = s.tables; policies = s.policies; role = s.role }
 
 -- the policies were read for these predicates
 abbrev pub AreKnown : List Predicate → SessionState → Type 0

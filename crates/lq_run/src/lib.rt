@@ -13,10 +13,8 @@ mod removals;
 mod reply;
 mod run;
 mod scalars;
-mod seen;
 mod state;
 mod stop;
-mod tables;
 mod trees;
 
 pub use denials::check_rights;

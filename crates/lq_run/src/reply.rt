@@ -1,53 +1,47 @@
 //! The line of a tree's reply.
-ghost use Rattle.std.specs.Prelude.{◌≡◌, [], codes, IfOk};
-ghost use Rattle.lq_machine.specs.States.{schemas_of};
-ghost use Rattle.lq_machine.specs.Served.{error_data, line_of, stream_data, value_data};
+ghost use Rattle.std.specs.Prelude.{◌≡◌, [], IfOk, true};
+ghost use Rattle.lq_value.specs.declared.ty.Ty.{out-Ty};
 ghost use Rattle.lq_language.specs.OperandMeaning.{stream_of};
-ghost use Rattle.lq_plan.specs.Worlds.{HaveDistinctColumns, schemas_in, world_of};
+ghost use Rattle.lq_language.specs.Types.{has_place};
+ghost use Rattle.lq_language.specs.ValuesOfTypes.{Every};
+ghost use Rattle.lq_store.specs.Rules.{IsTable};
+ghost use Rattle.lq_machine.specs.States.{cells_of, schemas_of};
+ghost use Rattle.lq_machine.specs.Served.{line_of, stream_data, value_data};
 ghost use Rattle.lq_tree.specs.AllowedCalls.{AddsOwnCalls};
 ghost use Rattle.lq_tree.specs.FormMeaning.{form_meaning};
-ghost use Rattle.lq_plan.specs.Watching.{facts_of};
+ghost use Rattle.lq_pull.specs.Views.{row_facts, sight_of, world_seen};
 ghost use Rattle.lq_run.specs.TreeReply.{tree_data};
 
-use crate::seen::SeenRow;
+use lq_guard::VisibleRow;
 use lq_host::{Asks, Log};
 use lq_json::{Line, Reply, reply_line};
-use lq_pipe::{RunError, TableRow, TableRows, run, value};
-use lq_store::Store;
+use lq_pull::{View, items_seen, value_seen};
 use lq_tree::{Tree, ty};
-use lq_value::{RowRef, Ty};
+use lq_use::Use;
+use lq_value::Ty;
 use std::alloc::{AllocError, Global};
 
-/// The line of a refusal.
-fn refusal_line(alloc: Global, word: &str) -> Result<Line, AllocError>
-    ensures { IfOk result (λ line. line ≡ line_of (error_data word.now)) }
-{
-    let reply: Reply<'_, SeenRow<'_>> = Reply::Error(word);
-    reply_line(alloc, &reply)
-}
-
 /// The line of a sequence, whose items are of this type.
-fn items_line<R: TableRow, H: Asks>(
+fn items_line<H: Asks>(
     alloc: Global,
-    store: &Store,
     item: &Ty,
     tree: &Tree,
-    tables: &[TableRows<'_, R>],
+    used: &[Use],
+    view: &View<'_>,
     hosts: &H,
     log: &mut Log<H>,
 ) -> Result<Line, AllocError>
-    requires { HaveDistinctColumns (schemas_in tables.now) }
-    ensures calls { AddsOwnCalls (world_of R.table_of R.shown (H.known hosts.now) tables.now)
-        (facts_of R.table_of R.number_of R.shown) tree.now.form [] log.old log.new }
+    ensures calls { AddsOwnCalls (world_seen (sight_of view.now) (H.known hosts.now)) row_facts
+        tree.now.form [] log.old log.new }
     ensures line { IfOk result (λ line. line
-        ≡ line_of (stream_data (schemas_of store.now) R.shown item.now
-        (stream_of (world_of R.table_of R.shown (H.known hosts.now) tables.now)
-        (form_meaning (world_of R.table_of R.shown (H.known hosts.now) tables.now)
-        tree.now.form [])))) }
+        ≡ line_of (stream_data (schemas_of view.now.store.now) cells_of item.now
+        (stream_of (world_seen (sight_of view.now) (H.known hosts.now))
+        (form_meaning (world_seen (sight_of view.now) (H.known hosts.now)) tree.now.form [])))) }
+    ensures rules { IfOk result (λ line. Every IsTable view.now.store.now) }
 {
-    let (items, end) = run(alloc, tree, tables, hosts, log)?;
+    let (items, end) = items_seen(alloc, tree, used, view, hosts, log)?;
     let reply = Reply::Items {
-        store,
+        store: view.store,
         ty: item,
         items: items.as_slice(),
         end,
@@ -56,58 +50,58 @@ fn items_line<R: TableRow, H: Asks>(
 }
 
 /// The line of a value that isn't a sequence.
-fn value_line<R: TableRow, H: Asks>(
+fn value_line<H: Asks>(
     alloc: Global,
-    store: &Store,
     tree: &Tree,
-    tables: &[TableRows<'_, R>],
+    used: &[Use],
+    view: &View<'_>,
     hosts: &H,
     log: &mut Log<H>,
 ) -> Result<Line, AllocError>
-    requires { HaveDistinctColumns (schemas_in tables.now) }
-    ensures calls { AddsOwnCalls (world_of R.table_of R.shown (H.known hosts.now) tables.now)
-        (facts_of R.table_of R.number_of R.shown) tree.now.form [] log.old log.new }
+    ensures calls { AddsOwnCalls (world_seen (sight_of view.now) (H.known hosts.now)) row_facts
+        tree.now.form [] log.old log.new }
     ensures line { IfOk result (λ line. line
-        ≡ line_of (value_data (schemas_of store.now) R.shown tree.now.ty
-        (form_meaning (world_of R.table_of R.shown (H.known hosts.now) tables.now)
-        tree.now.form []))) }
+        ≡ line_of (value_data (schemas_of view.now.store.now) cells_of tree.now.ty
+        (form_meaning (world_seen (sight_of view.now) (H.known hosts.now)) tree.now.form []))) }
+    ensures rules { IfOk result (λ line. Every IsTable view.now.store.now) }
 {
-    match value(alloc, tree, tables, hosts, log) {
+    match value_seen(alloc, tree, used, view, hosts, log)? {
         Ok(value) => {
             let reply = Reply::Value {
-                store,
+                store: view.store,
                 ty: ty(tree),
                 value: &value,
             };
             reply_line(alloc, &reply)
         }
-        Err(RunError::Fault(fault)) => {
-            let reply: Reply<'_, R> = Reply::Fault(fault);
+        Err(fault) => {
+            let reply: Reply<'_, VisibleRow<'_>> = Reply::Fault(fault);
             reply_line(alloc, &reply)
         }
-        Err(RunError::Memory) => Err(AllocError),
     }
 }
 
-/// The line of a tree's reply, over these tables and host predicates. A tree that is null by its type is refused.
-pub(crate) fn tree_line<R: TableRow, H: Asks>(
+/// The line of the reply of a tree that uses this and that isn't null by its type, over the tables as a role sees them and by what these
+/// host predicates answer.
+pub(crate) fn tree_line<H: Asks>(
     alloc: Global,
-    store: &Store,
     tree: &Tree,
-    tables: &[TableRows<'_, R>],
+    used: &[Use],
+    view: &View<'_>,
     hosts: &H,
     log: &mut Log<H>,
 ) -> Result<Line, AllocError>
-    requires { HaveDistinctColumns (schemas_in tables.now) }
-    ensures calls { AddsOwnCalls (world_of R.table_of R.shown (H.known hosts.now) tables.now)
-        (facts_of R.table_of R.number_of R.shown) tree.now.form [] log.old log.new }
+    requires { has_place (out-Ty tree.now.ty) ≡ true }
+    ensures calls { AddsOwnCalls (world_seen (sight_of view.now) (H.known hosts.now)) row_facts
+        tree.now.form [] log.old log.new }
     ensures line { IfOk result (λ line. line
-        ≡ line_of (tree_data R.shown (schemas_of store.now)
-        (world_of R.table_of R.shown (H.known hosts.now) tables.now) tree.now)) }
+        ≡ line_of (tree_data cells_of (schemas_of view.now.store.now)
+        (world_seen (sight_of view.now) (H.known hosts.now)) tree.now)) }
+    ensures rules { IfOk result (λ line. Every IsTable view.now.store.now) }
 {
     match ty(tree) {
-        Ty::Null => refusal_line(alloc, "type"),
-        Ty::Seq(item) => items_line(alloc, store, item.get(), tree, tables, hosts, log),
-        _ => value_line(alloc, store, tree, tables, hosts, log),
+        Ty::Null => unreachable!(),
+        Ty::Seq(item) => items_line(alloc, item.get(), tree, used, view, hosts, log),
+        _ => value_line(alloc, tree, used, view, hosts, log),
     }
 }

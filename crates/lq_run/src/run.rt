@@ -1,5 +1,7 @@
 //! The answer to `run`.
-ghost use Rattle.std.specs.Prelude.{◌≡◌, false, IfOk};
+ghost use Rattle.std.specs.Prelude.{◌≡◌, false, true, IfOk};
+ghost use Rattle.lq_value.specs.declared.ty.Ty.{out-Ty};
+ghost use Rattle.lq_language.specs.Types.{has_place};
 ghost use Rattle.lq_machine.specs.Opening.{is_past_opening};
 ghost use Rattle.lq_machine.specs.HostCalls.{run_named};
 ghost use Rattle.lq_machine.specs.Serving.{run_in, served_type};
@@ -10,10 +12,8 @@ ghost use Rattle.lq_run.specs.Replies.{ServesTree};
 ghost use Rattle.lq_run.specs.States.{AreKnown, state_with};
 ghost use Rattle.lq_run.specs.Stops.{IsAnswered};
 
-use crate::seen::seen_tables;
 use crate::state::State;
 use crate::stop::{Stop, refusal};
-use crate::tables::with_rows;
 use crate::{denials, reply, trees};
 use lq_grammar::Expr;
 use lq_host::{Asks, Log};
@@ -21,26 +21,26 @@ use lq_json::Line;
 use lq_machine::Opened;
 use lq_tree::{Tree, ty};
 use lq_typing::has_place;
-use lq_use::uses;
+use lq_use::{Use, uses};
 use std::alloc::{AllocError, Global};
 
-/// The line of a tree's reply over the rows that the session's role sees.
+/// The line of the reply of a tree that uses this and that isn't null by its type, over the rows that the session's role sees.
 fn seen_line<H: Asks>(
     alloc: Global,
     tree: &Tree,
+    used: &[Use],
     state: &State,
     hosts: &H,
     log: &mut Log<H>,
 ) -> Result<Line, AllocError>
-    requires { AreKnown (H.known hosts.now) state.now }
+    requires placed { has_place (out-Ty tree.now.ty) ≡ true }
+    requires known { AreKnown (H.known hosts.now) state.now }
     ensures served { IfOk result
         (ServesTree (state_with (H.known hosts.now) state.now) tree.now) }
     ensures calls { AddsCalls (state_with (H.known hosts.now) state.now)
         (form_uses tree.now.form) log.old log.new }
 {
-    let seen = seen_tables(alloc, state)?;
-    let tables = with_rows(alloc, state, seen.as_slice())?;
-    reply::tree_line(alloc, state.store(), tree, tables.as_slice(), hosts, log)
+    reply::tree_line(alloc, tree, used, &state.view(), hosts, log)
 }
 
 /// The line that `run` of an expression is answered, where what the statement opens is within the limits of opening: the
@@ -70,5 +70,5 @@ pub fn run_line<H: Asks>(
     }
     let used = uses(alloc, &tree, state.store(), true)?;
     denials::check_rights(alloc, used.as_slice(), state)?;
-    Ok(seen_line(alloc, &tree, state, hosts, log)?)
+    Ok(seen_line(alloc, &tree, used.as_slice(), state, hosts, log)?)
 }

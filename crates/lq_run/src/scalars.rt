@@ -10,14 +10,12 @@ ghost use Rattle.lq_run.specs.States.{AreKnown, state_with};
 ghost use Rattle.lq_run.specs.Statements.{EvaluatesTree, YieldsTree, is_of_scalars, scalar_in, tree_in};
 
 use crate::denials::check_rights;
-use crate::seen::seen_tables;
 use crate::state::State;
 use crate::stop::{Stop, fault, refusal};
-use crate::tables::with_rows;
 use lq_host::{Asks, Log};
-use lq_pipe::{RunError, value};
+use lq_pull::value_seen;
 use lq_tree::Tree;
-use lq_use::uses;
+use lq_use::{Use, uses};
 use lq_value::{RowRef, Scalar, Value};
 use std::alloc::Global;
 
@@ -35,6 +33,7 @@ fn scalar_of<R: RowRef>(value: Value<R>) -> Option<Scalar>
 fn evaluate_seen<H: Asks>(
     alloc: Global,
     tree: &Tree,
+    used: &[Use],
     state: &State,
     hosts: &H,
     log: &mut Log<H>,
@@ -45,15 +44,12 @@ fn evaluate_seen<H: Asks>(
     ensures calls { AddsCalls (state_with (H.known hosts.now) state.now)
         (form_uses tree.now.form) log.old log.new }
 {
-    let seen = seen_tables(alloc, state)?;
-    let tables = with_rows(alloc, state, seen.as_slice())?;
-    match value(alloc, tree, tables.as_slice(), hosts, log) {
+    match value_seen(alloc, tree, used, &state.view(), hosts, log)? {
         Ok(found) => match scalar_of(found) {
             Some(scalar) => Ok(scalar),
             None => Err(refusal(alloc, "type")),
         },
-        Err(RunError::Fault(met)) => Err(fault(alloc, met)),
-        Err(RunError::Memory) => Err(Stop::Memory),
+        Err(met) => Err(fault(alloc, met)),
     }
 }
 
@@ -76,5 +72,5 @@ pub fn evaluate_scalar<H: Asks>(
 {
     let used = uses(alloc, tree, state.store(), false)?;
     check_rights(alloc, used.as_slice(), state)?;
-    evaluate_seen(alloc, tree, state, hosts, log)
+    evaluate_seen(alloc, tree, used.as_slice(), state, hosts, log)
 }

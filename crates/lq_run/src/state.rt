@@ -3,6 +3,7 @@ use crate::definitions::{place_of, renew};
 use lq_language::HostName;
 use lq_machine::{Defined, Definition};
 use lq_policy::{Policies, RoleId};
+use lq_pull::View;
 use lq_store::{Store, StoreError};
 use lq_value::{Scalar, TableNumber, Txt};
 use std::alloc::{AllocError, Global};
@@ -51,7 +52,8 @@ impl State {
     ghost use Rattle.lq_machine.specs.Definitions.{known_names};
     ghost use Rattle.lq_machine.specs.States.{schemas_of};
     ghost use Rattle.lq_policy.specs.Roles.{number_of};
-    ghost use Rattle.lq_run.specs.States.{Assigns, IsValueFor, with_definition};
+    ghost use Rattle.lq_pull.specs.Views.{sight_of};
+    ghost use Rattle.lq_run.specs.States.{Assigns, IsValueFor, sight, with_definition};
     ghost use Rattle.lq_store.specs.Calls.{Inserts, count_listed, shown_pushed, without_rows};
 
     /// The first state of a session: no name is defined. Takes no memory.
@@ -85,6 +87,19 @@ impl State {
         ensures { result.now ≡ self.now.policies }
     {
         &self.policies
+    }
+
+    /// What the session's role reads of the tables.
+    pub(crate) fn view(&self) -> View<'_>
+        ensures value { sight_of result ≡ sight self.now }
+        ensures defined { AreDefined (schemas_of self.now.tables) self.now.policies.predicates
+            self.now.definitions }
+    {
+        View {
+            store: &self.store,
+            policies: &self.policies,
+            role: self.role,
+        }
     }
 
     /// The names of the host predicates that the policies know, by their numbers.

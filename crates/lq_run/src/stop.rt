@@ -1,12 +1,11 @@
 //! Why a statement stops before its end, and the lines that it is then answered.
 ghost use Rattle.std.specs.Prelude.{◌≡◌};
-ghost use Rattle.lq_machine.specs.States.{schemas_of};
+ghost use Rattle.lq_machine.specs.States.{cells_of, schemas_of};
 ghost use Rattle.lq_machine.specs.Served.{denied_data, error_data, fault_data};
 ghost use Rattle.lq_json.specs.Replies.{reply_data};
-ghost use Rattle.lq_run.specs.SeenRows.{cells_in};
 ghost use Rattle.lq_run.specs.Stops.{StopsWith};
 
-use crate::seen::SeenRow;
+use lq_guard::VisibleRow;
 use lq_json::{Line, Reply, reply_line};
 use lq_language::HostName;
 use lq_policy::Use;
@@ -44,8 +43,8 @@ impl<T: Drop> From<AllocFailed<T>> for Stop {
 }
 
 /// Stops with the line of a reply.
-fn stop_with(alloc: Global, reply: &Reply<'_, SeenRow<'_>>) -> Stop
-    ensures { StopsWith (reply_data cells_in reply.now) result }
+fn stop_with(alloc: Global, reply: &Reply<'_, VisibleRow<'_>>) -> Stop
+    ensures { StopsWith (reply_data cells_of reply.now) result }
 {
     match reply_line(alloc, reply) {
         Ok(line) => Stop::Answer(line),

@@ -5,7 +5,7 @@ ghost use Rattle.lq_run.specs.States.{AreKnown, AreKnown-prop};
 use crate::lines::{opening_of, statement_of, tokens_of};
 use crate::serving::type_of_line;
 use crate::work::OpenedStatement;
-use lq_host::HostSet;
+use lq_host::{Call, HostSet};
 use lq_json::Line;
 use lq_lex::is_blank;
 use lq_policy::{Policies, RoleId};
@@ -65,6 +65,13 @@ impl Session {
         ensures { result.now ≡ (state_of self.now).tables }
     {
         self.state.store()
+    }
+
+    /// The calls of host predicates that the lines so far made, in their order.
+    pub fn calls(&self) -> &[Call]
+        ensures { result.now ≡ (hosts_in self.now).calls }
+    {
+        self.hosts.calls()
     }
 
     /// The host predicates, and the log of their calls. No line changes the predicates.

@@ -20,6 +20,10 @@ impl RowRef for Cells<'_> {
     fn cells(&self) -> &[Scalar] {
         self.cells
     }
+
+    fn again(&self) -> Self {
+        Cells { cells: self.cells }
+    }
 }
 
 #[test]

@@ -1,5 +1,5 @@
 -- A host predicate that is bound is asked as it is named: of the same cells, with the same answer.
-use Rattle.std.proofs.Common.{◌≡◌, ◌==◌, if◌then◌else◌, ℕ, List, Bool, true, Option, Some, None, Result, ap, ap₂, ◌∙◌, sym, subst, option_and_then}
+use Rattle.std.proofs.Common.{◌≡◌, if◌then◌else◌, ℕ, List, Bool, true, Option, Some, None, Result, ap, ap₂, ◌∙◌, sym, subst, option_and_then}
 use Rattle.std.specs.Cmp.{unsigned_Decides}
 use Rattle.lq_value.specs.declared.scalar.Scalar.TheVariants as scalar
 use Rattle.lq_value.specs.declared.ty.Ty.{Ty}

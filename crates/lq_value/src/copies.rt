@@ -27,7 +27,7 @@ pub fn copy<R: RowRef>(alloc: Global, value: &Value<R>) -> Result<Value<R>, Allo
 {
     match value {
         Value::Scalar(scalar) => Ok(Value::Scalar(copy_scalar(alloc, scalar)?)),
-        Value::Row(row) => Ok(Value::Row(*row)),
+        Value::Row(row) => Ok(Value::Row(row.again())),
         Value::Rec(members) => Ok(Value::Rec(copy_members(alloc, members)?)),
         Value::Group(key, elements) => {
             let key = Held::new(alloc, copy(alloc, key.get())?)?;

@@ -29,7 +29,7 @@ pub enum End {
 }
 
 /// A reference to a row of a table, by which a value represents the row without a copy of it.
-pub trait RowRef: Copy {
+pub trait RowRef: Drop {
     ghost use Rattle.std.specs.Prelude.{List, ◌≡◌};
     ghost use Rattle.lq_value.specs.declared.scalar.Scalar.{Scalar};
 
@@ -38,6 +38,10 @@ pub trait RowRef: Copy {
     /// The row's cells, in the order of its table's columns.
     fn cells(&self) -> &[Scalar]
         ensures { result.now ≡ shown self.now };
+
+    /// Another reference to the same row.
+    fn again(&self) -> Self
+        ensures { result ≡ self.now };
 }
 
 /// A value: a scalar, a row, a record, a group or a sequence. A null row or record is

@@ -7,7 +7,8 @@ use Rattle.lq_machine.specs.Serving.{run_in, served_type}
 use Rattle.lq_language.specs.Uses.{shown_columns}
 use Rattle.lq_use.specs.FormRights.{form_rights}
 use Rattle.lq_run.specs.States.{state_with}
-use Rattle.lq_run.proofs.CallLemmas.{none_called, run_called}
+use Rattle.lq_run.proofs.CallLaws.{none_called}
+use Rattle.lq_run.proofs.CallLemmas.{run_called}
 use Rattle.lq_run.proofs.KnownLaws.{defined_with}
 use Rattle.lq_run.proofs.ReplyLemmas.{allowed_served, denied_answered, null_refused, told_of, untyped_refused}
 use Rattle.lq_run.proofs.StopLaws.{stops_as}
@@ -50,29 +51,33 @@ returns-clause-answered g c =
     (c.in_ok-tree.ensures predicates c.requires.known) c.in_ok-seen_line.field-0 (c.in_ok-check_rights.ensures predicates c.requires.known)
     c.in_ok-seen_line.ensures.served
 
+pub seen_line-requires-clause-placed : goal.seen_line-requires-clause-placed
+seen_line-requires-clause-placed g c =
+    told_of c.has_place.result true c.ty.result.now c.in_ok-tree.tree.ty c.has_place.ensures c.ty.ensures c.if-not-has_place.false
+
 pub returns-in_err-tree-clause-calls : goal.returns-in_err-tree-clause-calls
 returns-in_err-tree-clause-calls g c =
     let predicates = g.H.Asks.known c.args.hosts.now in
     let s = state_with predicates c.args.state.now in
-    none_called s (run_named s c.args.expr.now (served_type (names_in s) c.args.expr.now)) c.args.log.now c.args.log.now refl
+    none_called s (run_named s c.args.expr.now (served_type (names_in s) c.args.expr.now)) c.args.log.now
 
 pub returns-then-not-has_place-clause-calls : goal.returns-then-not-has_place-clause-calls
 returns-then-not-has_place-clause-calls g c =
     let predicates = g.H.Asks.known c.args.hosts.now in
     let s = state_with predicates c.args.state.now in
-    none_called s (run_named s c.args.expr.now (served_type (names_in s) c.args.expr.now)) c.args.log.now c.args.log.now refl
+    none_called s (run_named s c.args.expr.now (served_type (names_in s) c.args.expr.now)) c.args.log.now
 
 pub returns-in_err-used-clause-calls : goal.returns-in_err-used-clause-calls
 returns-in_err-used-clause-calls g c =
     let predicates = g.H.Asks.known c.args.hosts.now in
     let s = state_with predicates c.args.state.now in
-    none_called s (run_named s c.args.expr.now (served_type (names_in s) c.args.expr.now)) c.args.log.now c.args.log.now refl
+    none_called s (run_named s c.args.expr.now (served_type (names_in s) c.args.expr.now)) c.args.log.now
 
 pub returns-in_err-check_rights-clause-calls : goal.returns-in_err-check_rights-clause-calls
 returns-in_err-check_rights-clause-calls g c =
     let predicates = g.H.Asks.known c.args.hosts.now in
     let s = state_with predicates c.args.state.now in
-    none_called s (run_named s c.args.expr.now (served_type (names_in s) c.args.expr.now)) c.args.log.now c.args.log.now refl
+    none_called s (run_named s c.args.expr.now (served_type (names_in s) c.args.expr.now)) c.args.log.now
 
 pub returns-clause-calls : goal.returns-clause-calls
 returns-clause-calls g c =

@@ -3,7 +3,8 @@ use Rattle.std.proofs.Common.{◌≡◌, ◌∙◌, Err, append-nil, refl, rules
 use Rattle.lq_machine.specs.HostCalls.{named_now}
 use Rattle.lq_use.specs.FormRights.{form_rights}
 use Rattle.lq_run.specs.States.{state_with}
-use Rattle.lq_run.proofs.CallLemmas.{none_called, scalar_called}
+use Rattle.lq_run.proofs.CallLaws.{none_called}
+use Rattle.lq_run.proofs.CallLemmas.{scalar_called}
 use Rattle.lq_run.proofs.KnownLaws.{defined_with}
 use Rattle.lq_run.proofs.ScalarLemmas.{allowed_evaluated, denied_evaluated}
 use Rattle.lq_run.proofs.scalars.evaluate_scalar.Goals as goal
@@ -36,9 +37,9 @@ returns-clause-calls g c =
 pub returns-in_err-used-clause-calls : goal.returns-in_err-used-clause-calls
 returns-in_err-used-clause-calls g c =
     let s = state_with (g.H.Asks.known c.args.hosts.now) c.args.state.now in
-    λ e is. none_called s (named_now s e) c.args.log.now c.args.log.now refl
+    λ e is. none_called s (named_now s e) c.args.log.now
 
 pub returns-in_err-check_rights-clause-calls : goal.returns-in_err-check_rights-clause-calls
 returns-in_err-check_rights-clause-calls g c =
     let s = state_with (g.H.Asks.known c.args.hosts.now) c.args.state.now in
-    λ e is. none_called s (named_now s e) c.args.log.now c.args.log.now refl
+    λ e is. none_called s (named_now s e) c.args.log.now

@@ -9,7 +9,8 @@ use Rattle.lq_machine.proofs.StatementLaws.{deleted_nowhere}
 use Rattle.lq_run.specs.States.{state_with}
 use Rattle.lq_run.proofs.KnownLaws.{defined_with}
 use Rattle.lq_run.proofs.StopLaws.{stops_with}
-use Rattle.lq_session.proofs.CallLemmas.{deletion_called, none_called}
+use Rattle.lq_run.proofs.CallLaws.{none_called}
+use Rattle.lq_session.proofs.CallLemmas.{deletion_called}
 use Rattle.lq_session.proofs.DeletionLemmas.{faults, kept_hosts, no_condition, removed, removed_with, unallowed, untyped}
 use Rattle.lq_session.proofs.TableLemmas.{number_same, table_there}
 use Rattle.lq_session.proofs.rows.delete.Goals as goal

@@ -6,7 +6,8 @@ use Rattle.lq_grammar.specs.declared.syntax.Statement.{Statement}
 use Rattle.lq_grammar.specs.declared.syntax.Statement.TheVariants as statement
 use Rattle.lq_run.specs.States.{state_with}
 use Rattle.lq_session.specs.Performed.{PerformsWith}
-use Rattle.lq_session.proofs.CallLemmas.{none_called, statement_called}
+use Rattle.lq_run.proofs.CallLaws.{none_called}
+use Rattle.lq_session.proofs.CallLemmas.{statement_called}
 use Rattle.lq_session.proofs.Outcomes.{performs_run}
 use Rattle.lq_session.proofs.statements.perform.Goals as goal
 

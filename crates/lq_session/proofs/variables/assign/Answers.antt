@@ -4,7 +4,8 @@ use Rattle.lq_grammar.specs.declared.syntax.Statement.TheVariants as statement
 use Rattle.lq_language.specs.Typing.{converts}
 use Rattle.lq_machine.specs.HostCalls.{evaluated_named}
 use Rattle.lq_run.specs.States.{state_with}
-use Rattle.lq_session.proofs.CallLemmas.{assignment_called, none_called}
+use Rattle.lq_run.proofs.CallLaws.{none_called}
+use Rattle.lq_session.proofs.CallLemmas.{assignment_called}
 use Rattle.lq_session.proofs.VariableLemmas.{assigns_scalar, assigns_value, no_value, other_value, unassigned, untyped_value, value_for, variable_found}
 use Rattle.lq_session.proofs.variables.assign.Goals as goal
 

@@ -11,7 +11,8 @@ use Rattle.lq_grammar.specs.declared.syntax.Expr.{Expr}
 use Rattle.lq_grammar.specs.declared.syntax.Statement.TheVariants as statement
 use Rattle.lq_run.specs.States.{state_with}
 use Rattle.lq_run.specs.Statements.{FindsTree, tree_in}
-use Rattle.lq_session.proofs.CallLemmas.{defining_called, none_called}
+use Rattle.lq_run.proofs.CallLaws.{none_called}
+use Rattle.lq_session.proofs.CallLemmas.{defining_called}
 use Rattle.lq_session.proofs.VariableLemmas.{defines, is_new, taken, undefined, untyped}
 use Rattle.lq_session.proofs.variables.define.Goals as goal
 

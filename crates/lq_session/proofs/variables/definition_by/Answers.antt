@@ -12,7 +12,8 @@ use Rattle.lq_tree.specs.declared.tree.Tree.{Tree}
 use Rattle.lq_run.specs.States.{state_with}
 use Rattle.lq_run.specs.Statements.{EvaluatesTree}
 use Rattle.lq_session.specs.Variables.{DefinesBy}
-use Rattle.lq_session.proofs.CallLemmas.{definition_called, none_called}
+use Rattle.lq_run.proofs.CallLaws.{none_called}
+use Rattle.lq_session.proofs.CallLemmas.{definition_called}
 use Rattle.lq_session.proofs.VariableLemmas.{defines_query, defines_variable, unevaluated}
 use Rattle.lq_session.proofs.variables.definition_by.Goals as goal
 

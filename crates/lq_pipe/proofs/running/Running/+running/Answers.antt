@@ -22,7 +22,7 @@ use Rattle.lq_plan.specs.Pulling.{base_stream, item_at, outcome_stream}
 use Rattle.lq_plan.specs.Slots.{values_in}
 use Rattle.lq_plan.specs.Watching.{facts, is_covered_element, is_covered_pipe, is_covered_stage, matches_pass}
 use Rattle.lq_plan.proofs.PlanLaws.{row_says}
-use Rattle.lq_plan.proofs.PullLaws.{left_opened, stage_items, table_opened}
+use Rattle.lq_plan.proofs.PullLaws.{left_opened, passes_stage, stage_items, table_opened}
 use Rattle.lq_plan.proofs.WatchLaws.{slots_pass, source_covered, stage_covered}
 use Rattle.lq_tree.proofs.CoveredLaws.{covered_all_body, covered_all_source, covered_and_left, covered_and_right, covered_binary_left, covered_binary_right, covered_coalesce_left, covered_coalesce_right, covered_column, covered_conditional_condition, covered_conditional_first, covered_conditional_second, covered_first, covered_given_argument, covered_given_source, covered_group_by_element, covered_group_by_key, covered_group_by_source, covered_host, covered_is_null, covered_join_parts, covered_join_source, covered_key, covered_member, covered_or_left, covered_or_right, covered_order_keys, covered_order_source, covered_pair_first, covered_pair_second, covered_record, covered_second, covered_select_body, covered_select_many_inner, covered_select_many_result, covered_select_many_source, covered_select_source, covered_sequence, covered_simple, covered_unary, covered_where_body, covered_where_source, host_passes, join_inner, join_inner_key, join_outer_key, join_result}
 use Rattle.lq_pipe.specs.Items.{item_expansion, item_join, key_and_element}
@@ -474,6 +474,11 @@ pass-returns-in_err-pass-in-Some-Plain-default-clause-grows g t c =
     λ w start h s i gr.
     c.pass.ensures.grows w start (above_source (world c.args.self.now) w c.in-Some-Plain-default.field-0-0 c.args.form.now c.in-Some-Plain-default.source.now c.in-Some-Plain-default.ensures.stage h) s i gr
 
+pub pass-returns-in_ok-pass_through-in-Some-clause-meant : goal.pass-returns-in_ok-pass_through-in-Some-clause-meant
+pass-returns-in_ok-pass_through-in-Some-clause-meant g t c =
+    passes_stage (world c.args.self.now) (values_in c.args.slots.now) c.in-Some.stage c.args.form.now c.in-Some.source.now c.args.item
+    (outcome_stream c.in_ok-pass_through-in-Some.field-0) c.in-Some.ensures.stage c.in_ok-pass_through-in-Some.ensures.meant
+
 pub pass-returns-in_ok-pass_through-in-Some-clause-grows : goal.pass-returns-in_ok-pass_through-in-Some-clause-grows
 pass-returns-in_ok-pass_through-in-Some-clause-grows g t c =
     λ w start h s i gr.
@@ -520,7 +525,7 @@ pass_stage-returns-in-Select-clause-grows g t c =
 pub pass_row-returns-in-None-clause-grows : goal.pass_row-returns-in-None-clause-grows
 pass_row-returns-in-None-clause-grows g t c =
     λ w start h s i gr.
-    c.pass_select.ensures.grows w start (subst (λ st. is_covered_stage (world c.args.self.now) w st ≡ true) c.in-Select.is h) s (passing_row w (value.Row c.args.row.now) c.args.row.now refl i) gr
+    c.pass_select.ensures.grows w start (subst (λ st. is_covered_stage (world c.args.self.now) w st ≡ true) c.in-Select.is h) s (passing_row w (value.Row c.again-in-None.result) c.again-in-None.result refl (ap w.row c.again-in-None.ensures ∙ i)) gr
 
 pub pass_pulled-returns-in-Row-clause-grows : goal.pass_pulled-returns-in-Row-clause-grows
 pass_pulled-returns-in-Row-clause-grows g t c =

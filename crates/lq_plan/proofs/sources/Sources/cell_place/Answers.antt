@@ -5,5 +5,5 @@ use Rattle.lq_plan.proofs.sources.Sources.cell_place.Goals as goal
 
 pub returns : goal.returns
 returns g c =
-    own_cell_at g.R.TableRow.table_of g.R.RowRef.shown (values_in c.args.slots.now) (g.H.Asks.known c.args.self.now.hosts.now) c.args.self.now.tables.now c.args.of.now c.get.result.now c.in-Slot.slot c.in-Column.number
+    own_cell_at g.R.TableRow.table_of g.R.RowRef.shown (values_in c.args.slots.now) g.S.Rows.left (g.H.Asks.known c.args.self.now.hosts.now) c.args.self.now.tables.now c.args.of.now c.get.result.now c.in-Slot.slot c.in-Column.number
     c.args.table c.in-Column.column c.in_ok-_name._name.now c.args.self.now.distinct (search (rules, c.in-Column.is, c.get.ensures)) (search (rules, c.in-Slot.is, c.get.ensures)) (search rules) (c.is_next.ensures (search rules)) (search (rules, c.in_ok-_name.ensures))

@@ -9,7 +9,8 @@ use Rattle.lq_machine.specs.Machine.{step}
 use Rattle.lq_run.specs.States.{state_with}
 use Rattle.lq_session.specs.Performed.{Steps}
 use Rattle.lq_session.specs.States.{hosts_in, predicates_in, state_of}
-use Rattle.lq_session.proofs.CallLemmas.{line_called, none_called}
+use Rattle.lq_run.proofs.CallLaws.{none_called}
+use Rattle.lq_session.proofs.CallLemmas.{line_called}
 use Rattle.lq_session.proofs.StepLemmas.{says_nothing, steps_performed, stops_past, stops_performed, stops_unread}
 use Rattle.lq_session.proofs.session.Session.answer.Goals as goal
 

@@ -1,0 +1,2 @@
+pub mod GuardedLaws
+pub mod SeenLaws

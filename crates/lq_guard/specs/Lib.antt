@@ -1,0 +1,4 @@
+pub mod Accesses
+pub mod GuardLaws
+pub mod Guarding
+pub mod SeenRows

@@ -1,0 +1,4 @@
+pub mod Contexts
+pub mod Evaluations
+pub mod Readers
+pub mod Views
