@@ -14,6 +14,7 @@ for f in files:
     s=src[f]
     for m in re.finditer(r'    #\[cycle\(running\)\]\n((?:    #\[[^\n]*\]\n)*)    ((?:pub\(crate\) )?)fn (\w+)',s):
         fns[m.group(3)]=(f,m)
+HEADER=re.search(r"(?m)^impl<.*> Running<.*> \{$",src['running']).group(0)
 print(len(fns),'functions')
 by={f:[] for f in fns}
 for b in blocks:
@@ -96,11 +97,11 @@ for l in heads:
         for n in [x.strip() for x in m.group(2).split(',') if x.strip()]: names.setdefault((m.group(1),n),1)
     else:
         m=re.match(r'use ([\w:]+)::(\w+);',l); names.setdefault((m.group(1),m.group(2)),1)
-text='\n'.join(body)+"impl<'a, R: TableRow, S: Rows<R>, H: Asks>"
+text='\n'.join(body)+HEADER
 use=[]
 for (mod,n) in names:
     if mod.startswith('crate'): continue
     if re.search(rf'\b{n}\b',text): use.append(f'use {mod}::{n};')
-open('src/stubs.rt','w').write('//! Stubs.\nuse crate::running::Running;\n'+'\n'.join(use)+"\n\nimpl<'a, R: TableRow, S: Rows<R>, H: Asks> Running<'a, R, S, H> {\n"+gl+'\n\n'+'\n'.join(body)+'}\n')
+open('src/stubs.rt','w').write('//! Stubs.\nuse crate::running::Running;\n'+'\n'.join(use)+'\n\n'+HEADER+'\n'+gl+'\n\n'+'\n'.join(body)+'}\n')
 t=open('src/lib.rt').read().replace('mod running;','mod running;\nmod stubs;')
 open('src/lib.rt','w').write(t)
