@@ -2,7 +2,7 @@
 //! it is given.
 //!
 //! `value` and `run` give exactly what the tree means over these, faults and endings included, and
-//! `rows_where` the rows on which a condition is true, up to its first fault.
+//! `numbers_where` the numbers of the rows on which a condition is true, up to its first fault.
 #![tactic(auto)]
 
 mod clauses;
