@@ -1,2 +1,3 @@
 pub mod GuardedLaws
+pub mod HandingLaws
 pub mod SeenLaws

@@ -1,5 +1,5 @@
 -- What is handed out of tables: visible rows alone, and for a role that reads them the tables as seen.
-use Rattle.std.proofs.Common.{◌≡◌, ◌∷◌, ◌+◌, if◌then◌else◌, List, [], filter, ℕ, Bool, true, false, Option, Some, None, ap, sym, refl, option_map}
+use Rattle.std.proofs.Common.{◌≡◌, ◌∷◌, ◌+◌, if◌then◌else◌, List, [], filter, map, ℕ, Bool, true, false, Option, Some, None, ap, sym, refl, option_map}
 use Rattle.std.proofs.lemmas.Option.{none-some, same_Some}
 use Rattle.lq_value.specs.Tables.{Table}
 use Rattle.lq_value.specs.declared.table.Row.{Row}
@@ -10,7 +10,7 @@ use Rattle.lq_security.specs.Visible.{seen_from, seen_rows, tables_as_seen, visi
 use Rattle.lq_security.specs.declared.policy.Action.TheVariants as action
 use Rattle.lq_security.specs.declared.policy.PolicyParts.{PolicyParts}
 use Rattle.lq_guard.specs.GuardLaws.{HandsOutTablesAsSeen, HandsOutVisibleRows, IsVisibleRow}
-use Rattle.lq_guard.specs.SeenRows.{visible_rows, visible_tables_from}
+use Rattle.lq_guard.specs.SeenRows.{table_of, visible_rows, visible_tables_from}
 
 -- what is made of the rows of the table that is there
 pub of_rows : {B : Type 0} (f : List Row → B) (o : Option Table) (rows : List Row) → option_map (λ t. t.rows) o ≡ Some rows
@@ -52,3 +52,10 @@ all_visible policies role act table rows =
     every_map (λ row. visible_to policies role act table row.cells ≡ true) (IsVisibleRow policies role act) (λ row. record { table = table; row = row })
     (λ row is. is) (filter (λ row. visible_to policies role act table row.cells) rows)
     (all_pass (λ row. visible_to policies role act table row.cells) rows)
+
+-- and of the table that is scanned
+pub all_of_table : (table : ℕ) (rows : List Row) → Every (λ row. table_of row ≡ table) (map (λ row. record { table = table; row = row }) rows)
+all_of_table table [] = every_none (λ (row : TableRow). table_of row ≡ table)
+all_of_table table (row ∷ rows) =
+    every_more (λ (row : TableRow). table_of row ≡ table) (record { table = table; row = row }) (map (λ row. record { table = table; row = row }) rows)
+    refl (all_of_table table rows)

@@ -1,4 +1,5 @@
 pub mod Accesses
 pub mod GuardLaws
 pub mod Guarding
+pub mod Handing
 pub mod SeenRows

@@ -44,3 +44,7 @@ visible_by access rows = visible_rows access.policies.now (number_of access.role
 -- what a scan has left to hand out
 abbrev pub rows_left : Scan → List TableRow
 rows_left scan = visible_by scan.access scan.rows.now
+
+-- the number of the table that is scanned
+abbrev pub scanned_table : Scan → ℕ
+scanned_table scan = scan.access.table

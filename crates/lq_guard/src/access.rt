@@ -16,6 +16,7 @@ impl Access<'_> {
     ghost use Rattle.lq_guard.specs.Accesses.{is_visible_to};
 
     /// Whether the policies let the role do this with the row of the table that has these cells.
+    #[inline(never)]
     pub(crate) fn is_admitted(&self, cells: &[Scalar]) -> bool
         ensures { result ≡ is_visible_to self.now cells.now }
     {

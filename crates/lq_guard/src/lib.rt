@@ -6,13 +6,16 @@
 #![tactic(auto)]
 
 mod access;
+mod finding;
 pub mod guard_laws;
 mod guarded_trees;
+mod row_tests;
 mod scanning;
 mod scans;
 mod visible_rows;
 
 pub use guarded_trees::{GuardedTree, guard};
+pub use row_tests::RowTest;
 pub use scanning::{scan, scan_by};
 pub use scans::Scan;
 pub use visible_rows::VisibleRow;

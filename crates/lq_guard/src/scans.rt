@@ -13,8 +13,8 @@ use lq_value::{Row, Scalar};
 /// What is left of a table: the rows with which a role may do something, where they stand, one by one and in order. It takes no memory.
 #[derive(Clone, Copy, Drop)]
 pub struct Scan<'a, 'r> {
-    access: Access<'a>,
-    rows: &'a [Row],
+    pub(crate) access: Access<'a>,
+    pub(crate) rows: &'a [Row],
     // What was worked out once, if it was: it is asked in place of the policies.
     rules: Option<&'r RowRules<'a>>,
     ghost rules_agree: { ForSome rules (λ given. (cells : List Scalar)
@@ -22,7 +22,7 @@ pub struct Scan<'a, 'r> {
 }
 
 impl<'a, 'r> Scan<'a, 'r> {
-    ghost use Rattle.std.specs.Prelude.{◌≡◌, List};
+    ghost use Rattle.std.specs.Prelude.{◌≡◌, ◌∷◌, List, [], IfSome, MatchOption, true};
     ghost use Rattle.std.specs.Option.{ForSome};
     ghost use Rattle.lq_value.specs.declared.scalar.Scalar.{Scalar};
     ghost use Rattle.lq_policy.specs.RowRules.{admits};
@@ -47,13 +47,32 @@ impl<'a, 'r> Scan<'a, 'r> {
     }
 
     /// Whether the row that has these cells is handed out.
-    fn is_admitted(&self, cells: &[Scalar]) -> bool
+    #[inline(always)]
+    pub(crate) fn is_admitted(&self, cells: &[Scalar]) -> bool
         ensures { result ≡ is_visible_to self.now.access cells.now }
     {
         match self.rules {
             Some(rules) => rules.is_admitted(cells),
             None => self.access.is_admitted(cells),
         }
+    }
+
+    /// The next row that is handed out, where it stands in the store.
+    #[inline(always)]
+    pub(crate) fn next_visible(&mut self) -> Option<&'a Row>
+        ensures rows { MatchOption result ((rows_left self.old ≡ []) × (rows_left self.new ≡ []))
+            (λ row. rows_left self.old
+            ≡ record { table = self.new.access.table; row = row.now } ∷ rows_left self.new) }
+        ensures visible { IfSome result (λ row. is_visible_to self.new.access row.now.cells
+            ≡ true) }
+    {
+        while let [row, further @ ..] = self.rows {
+            self.rows = further;
+            if self.is_admitted(row.cells.as_slice()) {
+                return Some(row);
+            }
+        }
+        None
     }
 }
 
@@ -67,13 +86,9 @@ impl<'a> Iterator for Scan<'a, '_> {
 
     ghost remaining = { item_count rows_left };
 
+    #[inline]
     fn next(&mut self) -> Option<VisibleRow<'a>> {
-        while let [row, further @ ..] = self.rows {
-            self.rows = further;
-            if self.is_admitted(row.cells.as_slice()) {
-                return Some(VisibleRow::new(self.access, row));
-            }
-        }
-        None
+        let row = self.next_visible()?;
+        Some(VisibleRow::new(self.access, row))
     }
 }

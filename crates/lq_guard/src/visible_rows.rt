@@ -32,6 +32,7 @@ impl<'a> VisibleRow<'a> {
     ghost use Rattle.lq_guard.specs.Accesses.{is_visible_to};
 
     /// This row, which is visible.
+    #[inline(always)]
     pub(crate) fn new(access: Access<'a>, row: &'a Row) -> VisibleRow<'a>
         requires { is_visible_to access row.now.cells ≡ true }
         ensures { result ≡ record { table = access.entry.table; row = row.now } }

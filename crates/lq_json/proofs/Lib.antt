@@ -1,4 +1,6 @@
 pub mod Opens
 pub mod OrderLemmas
+pub mod PushLaws
+pub mod PushLemmas
 pub mod ShapeLemmas
 pub mod Tokens

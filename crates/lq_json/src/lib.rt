@@ -9,6 +9,7 @@ mod fault;
 mod items;
 mod line;
 mod order;
+mod pushing;
 mod reply;
 mod shape;
 mod sole;
@@ -16,4 +17,5 @@ mod write;
 
 pub use items::ItemsLine;
 pub use line::Line;
+pub use pushing::Items;
 pub use reply::{Reply, reply_line};

@@ -1,5 +1,7 @@
 pub mod AnswerLemmas
 pub mod CountLemmas
+pub mod DrainLemmas
+pub mod HandingLemmas
 pub mod ItemLemmas
 pub mod KeyLemmas
 pub mod LogLemmas

@@ -3,12 +3,12 @@ use crate::running::Running;
 use lq_grammar::SortKey;
 use lq_host::{Asks, Log};
 use lq_operators::{Matches, RunError};
-use lq_plan::{Pipe, Rows, Slots, Stage, TableRow, arrangements, sequences};
+use lq_plan::{Pipe, Reads, Slots, Stage, TableRow, arrangements, sequences};
 use lq_tree::{Form, Joined};
 use lq_value::{End, Fault, List, Scalar, Value};
 use std::alloc::AllocError;
 
-impl<'a, R: TableRow, S: Rows<R>, H: Asks> Running<'a, R, S, H> {
+impl<'a, R: TableRow, S: Reads<R>, H: Asks> Running<'a, R, S, H> {
     ghost use Rattle.std.specs.Prelude.{◌≡◌, IfOk, Ok, List, true};
     ghost use Rattle.lq_language.specs.Arrangement.{all_of};
     ghost use Rattle.lq_operators.specs.Matching.{pairs_of};

@@ -3,10 +3,10 @@ use crate::running::Running;
 use lq_host::{Asks, Log};
 use lq_language::Op;
 use lq_operators::RunError;
-use lq_plan::{Rows, Slots, TableRow, scalars};
+use lq_plan::{Reads, Slots, TableRow, scalars};
 use lq_tree::Form;
 
-impl<'a, R: TableRow, S: Rows<R>, H: Asks> Running<'a, R, S, H> {
+impl<'a, R: TableRow, S: Reads<R>, H: Asks> Running<'a, R, S, H> {
     ghost use Rattle.std.specs.Prelude.{◌≡◌, List, true};
     ghost use Rattle.lq_tree.specs.declared.tree.Form.TheVariants as form;
     ghost use Rattle.lq_plan.specs.Meanings.{Answers, meant, truth_in};

@@ -4,12 +4,12 @@ use lq_host::{Asks, Log};
 use lq_language::{Given, Simple};
 use lq_operators::{RunError, Tally, given, simple};
 use lq_plan::counts::{given_limit, simple_limit};
-use lq_plan::{Pipe, Rows, Slots, Stage, TableRow, parts, scalars, sequences, stage_of};
+use lq_plan::{Pipe, Reads, Slots, Stage, TableRow, parts, scalars, sequences, stage_of};
 use lq_tree::Form;
 use lq_value::{End, Fault, List, Ty, Value, same};
 use std::alloc::AllocError;
 
-impl<'a, R: TableRow, S: Rows<R>, H: Asks> Running<'a, R, S, H> {
+impl<'a, R: TableRow, S: Reads<R>, H: Asks> Running<'a, R, S, H> {
     ghost use Rattle.std.specs.Prelude.{◌≡◌, IfOk, Ok, List, true};
     ghost use Rattle.lq_value.specs.SameAndOrder.{same_values};
     ghost use Rattle.lq_value.specs.declared.value.End.TheVariants as end;

@@ -4,11 +4,11 @@ use lq_grammar::Field;
 use lq_host::{Asks, Log};
 use lq_language::Op;
 use lq_operators::RunError;
-use lq_plan::{Rows, Slots, TableRow, parts, scalars};
+use lq_plan::{Reads, Slots, TableRow, parts, scalars};
 use lq_tree::Form;
 use lq_value::{List, Scalar, Value};
 
-impl<'a, R: TableRow, S: Rows<R>, H: Asks> Running<'a, R, S, H> {
+impl<'a, R: TableRow, S: Reads<R>, H: Asks> Running<'a, R, S, H> {
     ghost use Rattle.std.specs.Prelude.{◌≡◌, List, true};
     ghost use Rattle.lq_value.specs.declared.value.Fault.TheVariants as fault;
     ghost use Rattle.lq_language.specs.OperandMeaning.{as_value, on_scalar};

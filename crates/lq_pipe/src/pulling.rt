@@ -2,14 +2,14 @@
 use crate::running::Running;
 use lq_host::{Asks, Log};
 use lq_plan::{
-    Base, Outcome, Pipe, Pulled, Rows, Slots, Stage, TableRow, counts, has_no_stage, sequences,
+    Base, Outcome, Pipe, Pulled, Reads, Slots, Stage, TableRow, counts, has_no_stage, sequences,
     stage_of,
 };
 use lq_tree::Form;
 use lq_value::{End, List, Value, copy_scalar};
 use std::alloc::AllocError;
 
-impl<'a, R: TableRow, S: Rows<R>, H: Asks> Running<'a, R, S, H> {
+impl<'a, R: TableRow, S: Reads<R>, H: Asks> Running<'a, R, S, H> {
     ghost use Rattle.std.specs.Prelude.{◌≡◌, ◌∷◌, [], Some, true, IfOk, List};
     ghost use Rattle.lq_value.specs.declared.value.Value.TheVariants as value;
     ghost use Rattle.lq_value.specs.declared.value.End.TheVariants as end;
@@ -23,6 +23,8 @@ impl<'a, R: TableRow, S: Rows<R>, H: Asks> Running<'a, R, S, H> {
     ghost use Rattle.lq_tree.specs.Watches.{Watch, has_watched_rows, have_watched_rows};
     ghost use Rattle.lq_plan.specs.Watching.{is_covered_pipe, watches};
     ghost use Rattle.lq_pipe.specs.Runs.{IsPlanned, world, Grown, HasTaken, covers, covers_above, covers_stage};
+    ghost use Rattle.lq_plan.specs.Handing.{handed_out, rows_to_come};
+    ghost use Rattle.lq_pipe.specs.Handing.{HandsUpTo};
     ghost use Rattle.lq_pipe.specs.Steps.{Steps};
 
     /// The items of a form, as a base of their own.
@@ -258,6 +260,9 @@ impl<'a, R: TableRow, S: Rows<R>, H: Asks> Running<'a, R, S, H> {
             (items_left (world self.now) (values_in slots.now) pipe.now base.old) step
             (items_left (world self.now) (values_in slots.now) pipe.now base.new)) }
         ensures pulled { HasTaken self.now slots.now pipe.now base.old log.old base.new log.new }
+        ensures hands { IfOk result (λ step. HandsUpTo (world self.now) (values_in slots.now)
+            pipe.now (rows_to_come base.old) (handed_out base.old) step
+            (rows_to_come base.new) (handed_out base.new)) }
     {
         loop {
             match base.pull(&pipe.plan) {

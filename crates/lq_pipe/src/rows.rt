@@ -7,12 +7,12 @@ ghost use Rattle.lq_plan.specs.Worlds.{HaveDistinctColumns, schemas_in, world_of
 
 use crate::running::Running;
 use lq_host::{Asks, Log};
-use lq_plan::{Plan, Rows, Slots, Sources, TableRow, TableRows};
+use lq_plan::{Plan, Reads, Slots, Sources, TableRow, TableRows};
 use lq_tree::{Form, Tree};
 use lq_value::{End, Fault, TableNumber, Value};
 use std::alloc::{AllocError, Global};
 
-impl<'a, R: TableRow, S: Rows<R>, H: Asks> Running<'a, R, S, H> {
+impl<'a, R: TableRow, S: Reads<R>, H: Asks> Running<'a, R, S, H> {
     ghost use Rattle.std.specs.Prelude.{◌≡◌, IfOk, List, true};
     ghost use Rattle.std.specs.List.{list_all};
     ghost use Rattle.lq_pipe.specs.Conditions.{holds_on, numbers_true};
@@ -98,7 +98,7 @@ fn select_if(selection: &mut Vec<u64>, number: u64, is_true: bool) -> Result<(),
 /// that were kept before it. The rows are pulled one by one, and none after that fault. The condition's first
 /// slot holds the row, and its tables and host predicates are these. Any number of a table is right: its rows
 /// may be asked faster than others. Refused where no memory was left.
-pub fn numbers_where<'a, R: TableRow, S: Rows<R>, H: Asks>(
+pub fn numbers_where<'a, R: TableRow, S: Reads<R>, H: Asks>(
     alloc: Global,
     condition: &Tree,
     table: TableNumber,

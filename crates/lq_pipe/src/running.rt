@@ -2,17 +2,17 @@
 use lq_host::{Asks, Log};
 use lq_operators::RunError;
 use lq_plan::parts::Part;
-use lq_plan::{Rows, Slots, Sources, Stage, TableRow, part_ref, scalars};
+use lq_plan::{Reads, Slots, Sources, Stage, TableRow, part_ref, scalars};
 use lq_tree::Form;
 use lq_value::{Scalar, Value, copy_scalar};
 
 /// The running of forms over some tables and host predicates.
 #[derive(Drop)]
-pub(crate) struct Running<'a, R: TableRow, S: Rows<R>, H: Asks> {
+pub(crate) struct Running<'a, R: TableRow, S: Reads<R>, H: Asks> {
     pub(crate) sources: Sources<'a, R, S, H>,
 }
 
-impl<'a, R: TableRow, S: Rows<R>, H: Asks> Running<'a, R, S, H> {
+impl<'a, R: TableRow, S: Reads<R>, H: Asks> Running<'a, R, S, H> {
     ghost use Rattle.std.specs.Prelude.{◌≡◌, List, true};
     ghost use Rattle.lq_language.specs.Operations.{on_ok};
     ghost use Rattle.lq_operators.specs.Answers.{IsAnswer};

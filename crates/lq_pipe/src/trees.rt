@@ -10,7 +10,7 @@ ghost use Rattle.lq_plan.specs.Worlds.{HaveDistinctColumns, schemas_in, world_of
 use crate::running::Running;
 use lq_host::{Asks, Log};
 use lq_operators::RunError;
-use lq_plan::{Rows, Slots, Sources, TableRow, TableRows, sequences};
+use lq_plan::{Reads, Slots, Sources, TableRow, TableRows, sequences};
 use lq_tree::Tree;
 use lq_value::{End, List, Value};
 use std::alloc::{AllocError, Global};
@@ -18,7 +18,7 @@ use std::alloc::{AllocError, Global};
 /// The value of a typed tree over these tables and host predicates, or its first fault (ECMA-334,
 /// expressions; .NET, `Enumerable`). `Memory` where none was left.
 #[tactic(auto, using(lq_plan::proofs::SlotLaws::no_values))]
-pub fn value<'a, R: TableRow, S: Rows<R>, H: Asks>(
+pub fn value<'a, R: TableRow, S: Reads<R>, H: Asks>(
     alloc: Global,
     tree: &Tree,
     tables: &'a [TableRows<'a, S>],
@@ -39,7 +39,7 @@ pub fn value<'a, R: TableRow, S: Rows<R>, H: Asks>(
 
 /// The items of a typed tree over these tables and host predicates, and how they end: a fault that is
 /// met in making them is their ending. Refused where no memory was left.
-pub fn run<'a, R: TableRow, S: Rows<R>, H: Asks>(
+pub fn run<'a, R: TableRow, S: Reads<R>, H: Asks>(
     alloc: Global,
     tree: &Tree,
     tables: &'a [TableRows<'a, S>],

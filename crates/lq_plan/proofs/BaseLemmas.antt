@@ -1,13 +1,20 @@
 -- Bases: what is left of them as items are taken.
-use Rattle.std.proofs.Common.{◌≡◌, ◌∷◌, ◌++◌, if◌then◌else◌, List, [], ℕ, Bool, true, false, Option, Some, None, ap, ◌∙◌, sym, refl, append-nil, filter, map, reverse}
+use Rattle.std.proofs.Common.{◌≡◌, ◌∷◌, ◌++◌, if◌then◌else◌, inl, inr, List, [], ℕ, Bool, true, false, Option, Some, None, Result, Ok, Err, ap, ◌∙◌, sym, refl, append-nil, filter, map, reverse}
 use Rattle.std.proofs.lemmas.List.{reverse-append, reverse-reverse}
 use Rattle.lq_value.specs.declared.scalar.Scalar.{Scalar}
 use Rattle.lq_value.specs.declared.value.End.{End}
 use Rattle.lq_value.specs.declared.value.Value.{Value}
 use Rattle.lq_value.specs.declared.value.Value.TheVariants as value
+use Rattle.lq_language.proofs.ItemLaws.{first_of, others_of}
 use Rattle.lq_language.specs.Enumerable.{in_front}
 use Rattle.lq_language.specs.Stream.{Stream}
+use Rattle.lq_language.specs.ValuesOfTypes.{Every}
+use Rattle.lq_guard.specs.Handing.{Drops, DropsAll, Finds, one_more}
+use Rattle.lq_guard.proofs.HandingLaws.{drops_more, drops_none, drops_same, drops_then, hands_row}
+use Rattle.lq_plan.specs.Handing.{HandsOut}
 use Rattle.lq_plan.specs.PlannedRows.{is_kept_by, row_verdict}
+use Rattle.lq_plan.specs.declared.bases.Pulled.{Pulled}
+use Rattle.lq_plan.specs.declared.bases.Pulled.TheVariants as pulled
 use Rattle.lq_plan.specs.declared.plans.Plan.{Plan}
 
 module _ {R : Type 0} where
@@ -59,4 +66,62 @@ module _ {R : Type 0} (table_of : R → ℕ) (shown : R → List Scalar) (plan :
       ∙ ap (λ (l : List (Value R)). (reverse l, e)) is ∙ ap (λ (l : List (Value R)). (l, e)) (reverse-append new (x ∷ []))
       ∙ ap (λ (l : List R). in_front x (kept l new e)) (sym none)
 
-pub ruleset pulls = (row_passes, row_open, row_dropped)
+  -- ---- rows that are handed out
+
+  abbrev says : R → Option Bool
+  says = row_verdict table_of shown plan
+
+  abbrev IsDropped : R → Type 0
+  IsDropped r = says r ≡ Some false
+
+  pub hands_open : (rows : List R) (n : ℕ) (left : List R) (m : ℕ) (r : R) (further : List R) (k : ℕ) → Drops says rows n left m → left ≡ r ∷ further
+      → k ≡ one_more m → HandsOut table_of shown plan rows n (Ok (pulled.Item (value.Row r))) further k
+  hands_open rows n left m r further k drops is more = inl (r, refl, hands_row says rows n left m r further k drops is more)
+
+  -- where no row is left: an item, and the end
+  pub hands_item : (rows : List R) (n : ℕ) (left : List R) (x : Value R) → rows ≡ [] → left ≡ [] → HandsOut table_of shown plan rows n (Ok (pulled.Item x)) left n
+  hands_item rows n left x none over = inr (drops_none says rows [] n none, over)
+
+  pub hands_end : (rows : List R) (n : ℕ) (left : List R) (e : End) → rows ≡ [] → left ≡ [] → HandsOut table_of shown plan rows n (Err e) left n
+  hands_end rows n left e none over = (drops_none says rows [] n none, over)
+
+  -- what is handed out behind dropped rows
+  pub hands_then : (rows : List R) (n : ℕ) (left : List R) (m : ℕ) (further : List R) (k : ℕ) (result : Result (Pulled R) End) → Drops says rows n left m
+      → HandsOut table_of shown plan left m result further k → HandsOut table_of shown plan rows n result further k
+  hands_then rows n left m further k (Ok (pulled.Row r)) drops hands = (hands.0, drops_then says rows n left m (r ∷ further) hands.0 drops hands.1, hands.2)
+  hands_then rows n left m further k (Ok (pulled.Item x)) drops (inl row) =
+      inl (row.0, row.1, (row.2.0, drops_then says rows n left m (row.0 ∷ further) row.2.0 drops row.2.1, row.2.2))
+  hands_then rows n left m further k (Ok (pulled.Item x)) drops (inr none) = inr (drops_then says rows n left m [] k drops none.0, none.1)
+  hands_then rows n left m further k (Err e) drops hands = (drops_then says rows n left m [] k drops hands.0, hands.1)
+
+  -- nothing is kept of dropped rows
+  kept_behind : (dropped left : List R) (items : List (Value R)) (e : End) → Every IsDropped dropped → kept (dropped ++ left) items e ≡ kept left items e
+  kept_behind [] left items e ds = refl
+  kept_behind (r ∷ rs) left items e ds =
+      sym (row_dropped (r ∷ (rs ++ left)) r (rs ++ left) items e refl (first_of IsDropped r rs ds))
+      ∙ kept_behind rs left items e (others_of IsDropped r rs ds)
+
+  kept_left : (rows : List R) (n : ℕ) (left : List R) (m : ℕ) (items : List (Value R)) (e : End) → Drops says rows n left m → kept rows items e ≡ kept left items e
+  kept_left rows n left m items e drops = ap (λ (l : List R). kept l items e) drops.is ∙ kept_behind drops.dropped left items e drops.do_not_pass
+
+  -- the row that is found comes next, where the plan says that it passes, and where it says nothing
+  pub found_passing : (rows : List R) (n : ℕ) (r : R) (left : List R) (m : ℕ) (items : List (Value R)) (e : End)
+      → Finds says rows n (Some (r, true)) left m → kept rows items e ≡ in_front (value.Row r) (kept left items e)
+  found_passing rows n r left m items e found =
+      kept_left rows n (r ∷ left) found.1.0 items e found.1.1 ∙ at_front r left items e (Some true) found.0 refl
+
+  pub found_open : (rows : List R) (n : ℕ) (r : R) (left : List R) (m : ℕ) (items : List (Value R)) (e : End)
+      → Finds says rows n (Some (r, false)) left m → kept rows items e ≡ in_front (value.Row r) (kept left items e)
+  found_open rows n r left m items e found =
+      kept_left rows n (r ∷ left) found.1.0 items e found.1.1 ∙ at_front r left items e None found.0 refl
+
+  -- and where none is found none is kept
+  pub found_none : (rows : List R) (n : ℕ) (left : List R) (m : ℕ) (items : List (Value R)) (e : End) → DropsAll says rows n left m
+      → kept rows items e ≡ kept left items e
+  found_none rows n left m items e none = kept_left rows n [] m items e none.0 ∙ ap (λ (l : List R). kept l items e) (sym none.1)
+
+pub ruleset finds = (drops_none, drops_more, drops_same, hands_row)
+
+pub ruleset items_pulled = (last_kept, hands_item, hands_end)
+
+pub ruleset pulls = (row_passes, row_open, row_dropped, drops_none, drops_more, hands_row, hands_open, hands_then)

@@ -2,6 +2,7 @@ pub mod ArrangementLaws
 pub mod ArrangementLemmas
 pub mod BaseLemmas
 pub mod CellLemmas
+pub mod FindingLemmas
 pub mod FormLaws
 pub mod PartLemmas
 pub mod PassingLemmas

@@ -3,6 +3,7 @@ pub mod Bases
 pub mod Counts
 pub mod Gathering
 pub mod Groups
+pub mod Handing
 pub mod Lists
 pub mod Meanings
 pub mod Parts

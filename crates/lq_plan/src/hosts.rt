@@ -1,13 +1,13 @@
 //! The asking of host predicates about rows.
 use crate::parts;
-use crate::rows::Rows;
+use crate::rows::Reads;
 use crate::sources::Sources;
 use crate::tables::{TableRow, cell};
 use lq_host::{Asks, HostError, Log, Pick, Pick2, PredicateNumber, Question};
 use lq_operators::RunError;
 use lq_value::{ColumnNumber, Fault, Scalar, TableNumber, Value};
 
-impl<'a, R: TableRow, S: Rows<R>, H: Asks> Sources<'a, R, S, H> {
+impl<'a, R: TableRow, S: Reads<R>, H: Asks> Sources<'a, R, S, H> {
     ghost use Rattle.std.specs.Prelude.{◌≡◌, List, Some, IfSome, true};
     ghost use Rattle.lq_value.specs.declared.value.Value.{out-Value};
     ghost use Rattle.lq_host.specs.Calls.{arguments_at as arguments_of, number_of};

@@ -30,7 +30,7 @@ pub use bases::{Base, Pulled};
 pub use lq_operators::RunError;
 pub use pipes::Pipe;
 pub use plans::Plan;
-pub use rows::{Gathered, Rows};
+pub use rows::{Gathered, Reads, Rows};
 pub use slots::Slots;
 pub use sources::{Sources, part_ref};
 pub use stages::{Outcome, Stage, has_no_stage, stage_of};

@@ -6,7 +6,7 @@ ghost use Rattle.lq_language.specs.Operations.{of_two, on_ok, searched, truth_of
 
 use crate::pipes::Pipe;
 use crate::plans::Plan;
-use crate::rows::Rows;
+use crate::rows::Reads;
 use crate::scalars;
 use crate::slots::Slots;
 use crate::sources::Sources;
@@ -45,7 +45,7 @@ fn search_of(op: Op) -> Option<Op>
     }
 }
 
-impl<'a, R: TableRow, S: Rows<R>, H: Asks> Sources<'a, R, S, H> {
+impl<'a, R: TableRow, S: Reads<R>, H: Asks> Sources<'a, R, S, H> {
     ghost use Rattle.std.specs.Prelude.{◌≡◌, IfOk, IfSome};
     ghost use Rattle.lq_tree.specs.declared.tree.Form.TheVariants as form;
     ghost use Rattle.lq_plan.specs.Meanings.{items_meant};

@@ -1,6 +1,7 @@
 //! Plans: what is found out once about the rows of a table, for the conditions and the lambda above it.
 use crate::tables::TableRow;
 use lq_condition::Condition;
+use lq_guard::RowTest;
 use lq_value::{Scalar, TableNumber};
 
 /// What is found out once about the rows of a table. Where a plan says nothing of a row, the row
@@ -38,5 +39,17 @@ impl Plan {
         ensures { option_copied result ≡ row_cell R.table_of R.shown self.now row.now }
     {
         row.cells().get(self.place?)
+    }
+}
+
+/// A plan asks a row's cells as the cells of its table.
+impl RowTest for Plan {
+    ghost use Rattle.lq_condition.specs.Verdicts.{verdict};
+
+    ghost verdict_of = { λ plan cells. verdict plan.condition cells };
+
+    #[inline]
+    fn verdict(&self, cells: &[Scalar]) -> Option<bool> {
+        self.condition.verdict(cells)
     }
 }

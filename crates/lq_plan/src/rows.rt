@@ -1,4 +1,5 @@
 //! Rows that are handed out one by one.
+use crate::plans::Plan;
 use crate::tables::TableRow;
 use lq_guard::{Scan, VisibleRow};
 use lq_host::SeenRow;
@@ -18,6 +19,18 @@ pub trait Rows<R>: Drop {
     /// Another that has the same rows left.
     fn reopened(&self) -> Self
         ensures { result ≡ self.now };
+}
+
+/// What hands out rows, and looks for those that pass by a plan.
+pub trait Reads<R: TableRow>: Rows<R> {
+    ghost use Rattle.lq_guard.specs.Handing.{Finds};
+    ghost use Rattle.lq_plan.specs.PlannedRows.{row_verdict};
+
+    /// The next of the rows that are left of which a plan doesn't say that it doesn't pass, and whether the plan says that it passes. It is counted
+    /// with those that are passed over. None where none is left.
+    fn next_passing(&mut self, plan: &Plan, handed: &mut u64) -> Option<(R, bool)>
+        ensures { Finds (row_verdict R.table_of R.shown plan.now) (Self.left self.old) handed.old
+            result (Self.left self.new) handed.new };
 }
 
 impl TableRow for VisibleRow<'_> {
@@ -51,6 +64,19 @@ impl<'a> Rows<VisibleRow<'a>> for Scan<'a, '_> {
     }
 }
 
+impl<'a> Reads<VisibleRow<'a>> for Scan<'a, '_> {
+    #[inline]
+    #[tactic(auto, using(crate::proofs::FindingLemmas::found))]
+    fn next_passing(&mut self, plan: &Plan, handed: &mut u64) -> Option<(VisibleRow<'a>, bool)> {
+        if self.table() == plan.table {
+            return self.find_passing(plan, handed);
+        }
+        let row = self.next()?;
+        *handed = (*handed).saturating_add(1);
+        Some((row, false))
+    }
+}
+
 /// Rows that were gathered before, those that are left.
 #[derive(Drop)]
 pub struct Gathered<'a, R> {
@@ -58,7 +84,7 @@ pub struct Gathered<'a, R> {
 }
 
 impl<'a, R> Gathered<'a, R> {
-    ghost use Rattle.std.specs.Prelude.{◌≡◌};
+    ghost use Rattle.std.specs.Prelude.{◌≡◌, ◌∷◌, [], MatchOption};
     ghost use Rattle.lq_plan.specs.Gathering.{gathered};
 
     /// All of these rows.
@@ -66,6 +92,21 @@ impl<'a, R> Gathered<'a, R> {
         ensures { gathered result ≡ rows.now }
     {
         Gathered { rows }
+    }
+
+    /// The next of these rows, where it stands.
+    #[inline(always)]
+    fn next_in_place(&mut self) -> Option<&'a R>
+        ensures { MatchOption result ((gathered self.old ≡ []) × (gathered self.new ≡ []))
+            (λ row. gathered self.old ≡ row.now ∷ gathered self.new) }
+    {
+        match self.rows {
+            [row, further @ ..] => {
+                self.rows = further;
+                Some(row)
+            }
+            [] => None,
+        }
     }
 }
 
@@ -75,16 +116,27 @@ impl<'a, R: RowRef> Rows<R> for Gathered<'a, R> {
     ghost left = { gathered };
 
     fn next_row(&mut self) -> Option<R> {
-        match self.rows {
-            [row, further @ ..] => {
-                self.rows = further;
-                Some(row.again())
-            }
-            [] => None,
-        }
+        Some(self.next_in_place()?.again())
     }
 
     fn reopened(&self) -> Self {
         Gathered { rows: self.rows }
+    }
+}
+
+impl<'a, R: TableRow> Reads<R> for Gathered<'a, R> {
+    #[inline]
+    #[tactic(auto, using(crate::proofs::BaseLemmas::finds))]
+    fn next_passing(&mut self, plan: &Plan, handed: &mut u64) -> Option<(R, bool)> {
+        // a row is taken again only where it is found
+        while let Some(row) = self.next_in_place() {
+            *handed = (*handed).saturating_add(1);
+            match plan.verdict(row) {
+                Some(true) => return Some((row.again(), true)),
+                Some(false) => {}
+                None => return Some((row.again(), false)),
+            }
+        }
+        None
     }
 }

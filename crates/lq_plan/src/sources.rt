@@ -7,7 +7,7 @@ ghost use Rattle.lq_plan.specs.Worlds.{HaveDistinctColumns, world_of};
 
 use crate::bases::Base;
 use crate::parts::{self, Part};
-use crate::rows::Rows;
+use crate::rows::Reads;
 use crate::scalars;
 use crate::slots::Slots;
 use crate::tables::{TableRow, TableRows, cell};
@@ -50,7 +50,7 @@ fn scalar_in_value<R: RowRef>(operand: &Value<R>) -> Option<&Scalar>
 /// What forms are run over: the tables that they may read, no two columns of one of which have the
 /// same name, the host predicates that they may ask, and what gives memory.
 #[derive(Drop)]
-pub struct Sources<'a, R: TableRow, S: Rows<R>, H: Asks> {
+pub struct Sources<'a, R: TableRow, S: Reads<R>, H: Asks> {
     /// What gives memory.
     pub alloc: Global,
     /// The tables, by their numbers.
@@ -62,7 +62,7 @@ pub struct Sources<'a, R: TableRow, S: Rows<R>, H: Asks> {
         (world_of R.table_of R.shown S.left (H.known hosts.now) tables.now).schemas },
 }
 
-impl<'a, R: TableRow, S: Rows<R>, H: Asks> Sources<'a, R, S, H> {
+impl<'a, R: TableRow, S: Reads<R>, H: Asks> Sources<'a, R, S, H> {
     ghost use Rattle.std.specs.Prelude.{◌≡◌, IfOk, List, Ok, map, slice_get, true};
     ghost use Rattle.lq_value.specs.declared.value.Value.{out-Value};
     ghost use Rattle.lq_language.specs.OperandMeaning.{stream_of, table_value};

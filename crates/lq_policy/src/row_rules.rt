@@ -36,6 +36,7 @@ impl Ruled<'_> {
     ghost use Rattle.lq_policy.specs.RowRules.{rules_admit};
 
     /// Whether the rules admit the row.
+    #[inline(never)]
     fn is_admitted(&self, cells: &[Scalar]) -> bool
         ensures { result ≡ rules_admit self.now cells.now }
     {
@@ -55,6 +56,7 @@ impl RowRules<'_> {
 
     /// Whether the role's action is admitted to the row of the table that has these cells. Takes
     /// no memory.
+    #[inline(always)]
     pub fn is_admitted(&self, cells: &[Scalar]) -> bool
         ensures { result ≡ admits self.now cells.now }
     {

@@ -1,5 +1,5 @@
 -- What guarded trees are run over.
-use Rattle.std.specs.Prelude.{◌≡◌, List, [], Result}
+use Rattle.std.specs.Prelude.{◌≡◌, [], Result}
 use Rattle.lq_value.specs.declared.value.Fault.{Fault}
 use Rattle.lq_value.specs.declared.value.Value.{Value}
 use Rattle.lq_host.specs.Hosts.{Hosts, hosts_of}

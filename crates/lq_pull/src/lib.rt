@@ -1,8 +1,8 @@
 //! The running of typed trees over the tables that a role sees under policies.
 //!
-//! `value_seen` and `items_seen` give exactly what a tree means over the tables as the role sees them, and `removable_numbers` the rows
-//! on which a condition is true among those that the role may remove. Each row comes from a scan of `lq_guard`, when it is asked for.
-//! `value` and `run` do the same for guarded trees, with a set of host predicates.
+//! `value_seen` and `items_seen` give exactly what a tree means over the tables as the role sees them, `drain_seen` gives its items to a
+//! sink one by one, and `removable_numbers` gives the rows on which a condition is true among those that the role may remove. Each row
+//! comes from a scan of `lq_guard`, when it is asked for. `value` and `run` do the same for guarded trees, with a set of host predicates.
 #![tactic(auto)]
 
 mod context;
@@ -16,4 +16,4 @@ mod whole;
 pub use context::{Ctx, run, value};
 pub use removing::removable_numbers;
 pub use views::View;
-pub use whole::{items_seen, value_seen};
+pub use whole::{drain_seen, items_seen, value_seen};

@@ -2,7 +2,7 @@
 ghost use Rattle.std.specs.Prelude.{◌≡◌};
 
 use lq_guard::{Scan, VisibleRow};
-use lq_pipe::{Gathered, Rows};
+use lq_pipe::{Gathered, Plan, Reads, Rows};
 
 /// What hands out the rows of a table with which a role may do something.
 #[derive(Drop)]
@@ -29,6 +29,15 @@ impl<'a> Rows<VisibleRow<'a>> for Reader<'a, '_> {
         match self {
             Reader::Scan(scan) => Reader::Scan(scan.reopened()),
             Reader::Gathered(rows) => Reader::Gathered(rows.reopened()),
+        }
+    }
+}
+
+impl<'a> Reads<VisibleRow<'a>> for Reader<'a, '_> {
+    fn next_passing(&mut self, plan: &Plan, handed: &mut u64) -> Option<(VisibleRow<'a>, bool)> {
+        match self {
+            Reader::Scan(scan) => scan.next_passing(plan, handed),
+            Reader::Gathered(rows) => rows.next_passing(plan, handed),
         }
     }
 }

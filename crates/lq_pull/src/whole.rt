@@ -5,6 +5,7 @@ ghost use Rattle.lq_language.specs.ValuesOfTypes.{Every};
 ghost use Rattle.lq_store.specs.Rules.{IsTable};
 ghost use Rattle.lq_tree.specs.AllowedCalls.{AddsOwnCalls};
 ghost use Rattle.lq_tree.specs.FormMeaning.{form_meaning};
+ghost use Rattle.lq_sink.specs.Draining.{Drains};
 ghost use Rattle.lq_pull.specs.Evaluations.{Finds};
 ghost use Rattle.lq_pull.specs.Views.{row_facts, sight_of, world_seen};
 
@@ -14,8 +15,9 @@ use crate::tables::with_rows;
 use crate::views::View;
 use lq_guard::VisibleRow;
 use lq_host::{Asks, Log};
-use lq_pipe::{RunError, run, value};
+use lq_pipe::{RunError, drain, run, value};
 use lq_policy::Use;
+use lq_sink::Sink;
 use lq_tree::Tree;
 use lq_value::{End, Fault, List, Value};
 use std::alloc::{AllocError, Global};
@@ -74,4 +76,31 @@ pub fn items_seen<'a, H: Asks>(
     let prepared = prepare_for(alloc, view, tree, used)?;
     let tables = with_rows(alloc, view, prepared.as_slice())?;
     run::<VisibleRow<'_>, Reader<'_, '_>, H>(alloc, tree, tables.as_slice(), hosts, log)
+}
+
+/// Gives the items of a typed tree over the tables as a role sees them, and by what these host predicates answer, to a sink, one by one and in
+/// order, until the sink stops, as `lq_pipe::drain` does. Returns how the items end, as for `items_seen`; after a stop they are done. Refused
+/// where no memory was left.
+pub fn drain_seen<'a, H: Asks, K: Sink<VisibleRow<'a>>>(
+    alloc: Global,
+    tree: &Tree,
+    used: &[Use],
+    view: &View<'a>,
+    hosts: &H,
+    log: &mut Log<H>,
+    sink: &mut K,
+) -> Result<End, AllocError>
+    ensures calls { AddsOwnCalls (world_seen (sight_of view.now) (H.known hosts.now)) row_facts
+        tree.now.form [] log.old log.new }
+    ensures meant { IfOk result (λ end. Drains K.takes
+        (stream_of (world_seen (sight_of view.now) (H.known hosts.now))
+        (form_meaning (world_seen (sight_of view.now) (H.known hosts.now)) tree.now.form [])).0
+        (stream_of (world_seen (sight_of view.now) (H.known hosts.now))
+        (form_meaning (world_seen (sight_of view.now) (H.known hosts.now)) tree.now.form [])).1
+        sink.old end sink.new) }
+    ensures rules { IfOk result (λ end. Every IsTable view.now.store.now) }
+{
+    let prepared = prepare_for(alloc, view, tree, used)?;
+    let tables = with_rows(alloc, view, prepared.as_slice())?;
+    drain::<VisibleRow<'_>, Reader<'_, '_>, H, K>(alloc, tree, tables.as_slice(), hosts, log, sink)
 }

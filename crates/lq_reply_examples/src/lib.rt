@@ -9,6 +9,8 @@ mod grids;
 #[cfg(test)]
 mod items;
 #[cfg(test)]
+mod pushing;
+#[cfg(test)]
 mod replies;
 #[cfg(test)]
 mod sentences;

@@ -10,7 +10,7 @@ use std::test::Fail;
 
 /// A row with no cells.
 #[derive(Clone, Copy)]
-struct NoRow;
+pub(crate) struct NoRow;
 
 impl RowRef for NoRow {
     ghost shown = { λ row. [] };

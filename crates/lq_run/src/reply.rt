@@ -14,14 +14,14 @@ ghost use Rattle.lq_run.specs.TreeReply.{tree_data};
 
 use lq_guard::VisibleRow;
 use lq_host::{Asks, Log};
-use lq_json::{Line, Reply, reply_line};
-use lq_pull::{View, items_seen, value_seen};
+use lq_json::{Items, Line, Reply, reply_line};
+use lq_pull::{View, drain_seen, value_seen};
 use lq_tree::{Tree, ty};
 use lq_use::Use;
 use lq_value::Ty;
 use std::alloc::{AllocError, Global};
 
-/// The line of a sequence, whose items are of this type.
+/// The line of a sequence, whose items are of this type: they are written one by one, and kept nowhere else.
 fn items_line<H: Asks>(
     alloc: Global,
     item: &Ty,
@@ -39,14 +39,10 @@ fn items_line<H: Asks>(
         (form_meaning (world_seen (sight_of view.now) (H.known hosts.now)) tree.now.form [])))) }
     ensures rules { IfOk result (λ line. Every IsTable view.now.store.now) }
 {
-    let (items, end) = items_seen(alloc, tree, used, view, hosts, log)?;
-    let reply = Reply::Items {
-        store: view.store,
-        ty: item,
-        items: items.as_slice(),
-        end,
-    };
-    reply_line(alloc, &reply)
+    let mut items = Items::new(alloc, item, view.store);
+    let end = drain_seen::<H, Items<'_>>(alloc, tree, used, view, hosts, log, &mut items)?;
+    let line = items.finish(end)?;
+    Ok(line)
 }
 
 /// The line of a value that isn't a sequence.

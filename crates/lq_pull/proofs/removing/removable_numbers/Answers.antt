@@ -1,5 +1,5 @@
 -- The scan hands out the rows that may be removed, and the tables are those that the role sees.
-use Rattle.std.proofs.Common.{◌≡◌, List, IfOk, ap, subst, sym, slice_get}
+use Rattle.std.proofs.Common.{◌≡◌, List, IfOk, subst, sym, slice_get}
 use Rattle.lq_language.specs.TableRows.{TableRow}
 use Rattle.lq_language.specs.Worlds.{World}
 use Rattle.lq_security.specs.declared.policy.Action.TheVariants as action
@@ -8,7 +8,7 @@ use Rattle.lq_guard.specs.SeenRows as seen_rows
 use Rattle.lq_pipe.specs.Conditions.{numbers_true}
 use Rattle.lq_plan.specs.declared.tables.TableRows.{TableRows}
 use Rattle.lq_pull.specs.Readers.{AreSeen}
-use Rattle.lq_pull.specs.Views.{row_facts, rows_for, sight_of, world_seen}
+use Rattle.lq_pull.specs.Views.{row_facts, rows_for, sight_of}
 use Rattle.lq_pull.specs.declared.readers.Reader.{Reader}
 use Rattle.lq_pull.proofs.WholeLemmas.{are_those, calls_seen, is_seen, read}
 use Rattle.lq_pull.proofs.removing.removable_numbers.Goals as goal

@@ -3,12 +3,10 @@ use Rattle.std.proofs.Common.{◌≡◌, List, [], IfOk, subst, sym}
 use Rattle.lq_language.specs.OperandMeaning.{stream_of}
 use Rattle.lq_language.specs.TableRows.{TableRow}
 use Rattle.lq_language.specs.Worlds.{World}
-use Rattle.lq_tree.specs.AllowedCalls.{AddsOwnCalls, watch_of}
 use Rattle.lq_tree.specs.FormMeaning.{form_meaning}
-use Rattle.lq_tree.proofs.LogLaws.{grown_none}
 use Rattle.lq_plan.specs.declared.tables.TableRows.{TableRows}
 use Rattle.lq_pull.specs.Readers.{AreSeen}
-use Rattle.lq_pull.specs.Views.{row_facts, sight_of, world_seen}
+use Rattle.lq_pull.specs.Views.{sight_of}
 use Rattle.lq_pull.specs.declared.readers.Reader.{Reader}
 use Rattle.lq_pull.proofs.WholeLemmas.{calls_seen, is_seen}
 use Rattle.lq_pull.proofs.whole.items_seen.Goals as goal

@@ -25,6 +25,8 @@ use Rattle.lq_plan.proofs.PlanLaws.{row_says}
 use Rattle.lq_plan.proofs.PullLaws.{left_opened, passes_stage, stage_items, table_opened}
 use Rattle.lq_plan.proofs.WatchLaws.{slots_pass, source_covered, stage_covered}
 use Rattle.lq_tree.proofs.CoveredLaws.{covered_all_body, covered_all_source, covered_and_left, covered_and_right, covered_binary_left, covered_binary_right, covered_coalesce_left, covered_coalesce_right, covered_column, covered_conditional_condition, covered_conditional_first, covered_conditional_second, covered_first, covered_given_argument, covered_given_source, covered_group_by_element, covered_group_by_key, covered_group_by_source, covered_host, covered_is_null, covered_join_parts, covered_join_source, covered_key, covered_member, covered_or_left, covered_or_right, covered_order_keys, covered_order_source, covered_pair_first, covered_pair_second, covered_record, covered_second, covered_select_body, covered_select_many_inner, covered_select_many_result, covered_select_many_source, covered_select_source, covered_sequence, covered_simple, covered_unary, covered_where_body, covered_where_source, host_passes, join_inner, join_inner_key, join_outer_key, join_result}
+use Rattle.lq_plan.specs.Handing.{HandsOut, handed_out, rows_to_come}
+use Rattle.lq_pipe.proofs.HandingLemmas.{hands_end, hands_fault, hands_item, passes_dropped, passes_none}
 use Rattle.lq_pipe.specs.Items.{item_expansion, item_join, key_and_element}
 use Rattle.lq_pipe.specs.Runs.{world}
 use Rattle.lq_pipe.specs.Steps.{Steps}
@@ -144,7 +146,7 @@ evaluate-returns-in-Select-clause-meant g t c =
 
 pub base_of-returns-in_ok-items-in_default-clause-meant : goal.base_of-returns-in_ok-items-in_default-clause-meant
 base_of-returns-in_ok-items-in_default-clause-meant g t c =
-    c.of_items.ensures ∙ c.in_ok-items-in_default.ensures (world c.args.self.now) _ refl c.evaluate-value.ensures.meant
+    c.of_items.ensures.items ∙ c.in_ok-items-in_default.ensures (world c.args.self.now) _ refl c.evaluate-value.ensures.meant
 
 pub order_by-sort_by-requires : goal.order_by-sort_by-requires
 order_by-sort_by-requires g t c =
@@ -448,7 +450,7 @@ pub base_of-returns-in_ok-items-in_default-clause-from : goal.base_of-returns-in
 base_of-returns-in_ok-items-in_default-clause-from g t c =
     λ w h s.
     stream_passes (world c.args.self.now) w c.args.form.now (values_in c.args.slots.now) _
-    (c.of_items.ensures ∙ c.in_ok-items-in_default.ensures (world c.args.self.now) _ refl c.evaluate-value.ensures.meant) h s
+    (c.of_items.ensures.items ∙ c.in_ok-items-in_default.ensures (world c.args.self.now) _ refl c.evaluate-value.ensures.meant) h s
 
 pub open-returns-in_ok-open-in-Some-clause-grows : goal.open-returns-in_ok-open-in-Some-clause-grows
 open-returns-in_ok-open-in-Some-clause-grows g t c =
@@ -566,11 +568,29 @@ next-returns-in-Err-clause-pulled g t c =
     (subst (λ r. IfErr r (λ e. (kept_stream g.R.TableRow.table_of g.R.RowRef.shown c.args.pipe.now.plan c.loop-pulled.base) ≡ ([], e))) c.in-Err.is c.pull.ensures.end)
     (subst (λ r. IfErr r (λ e. (kept_stream g.R.TableRow.table_of g.R.RowRef.shown c.args.pipe.now.plan c.pull.new.self).0 ≡ [])) c.in-Err.is c.pull.ensures.over)
 
+pub next-returns-in-Item-clause-hands : goal.next-returns-in-Item-clause-hands
+next-returns-in-Item-clause-hands g t c =
+    hands_item g.R.TableRow.table_of g.R.RowRef.shown (world c.args.self.now) (values_in c.args.slots.now) c.args.pipe.now c.requires (rows_to_come c.args.base.now) (handed_out c.args.base.now) (rows_to_come c.loop-pulled.base) (handed_out c.loop-pulled.base) (rows_to_come c.pull.new.self) (handed_out c.pull.new.self) c.loop-pulled.invariant.passes
+    c.in-Ok.pulled c.in-Item.item (subst (λ r. HandsOut g.R.TableRow.table_of g.R.RowRef.shown c.args.pipe.now.plan (rows_to_come c.loop-pulled.base) (handed_out c.loop-pulled.base) r (rows_to_come c.pull.new.self) (handed_out c.pull.new.self)) c.in-Ok.is c.pull.ensures.hands)
+    (subst (λ o. outcome_stream o ≡ comes g.R.TableRow.table_of g.R.RowRef.shown (world c.args.self.now) (values_in c.args.slots.now) c.args.pipe.now (pulled_value c.in-Ok.pulled)) c.in-Item.is c.in_ok-item-in-Ok.ensures.meant)
+
+pub next-returns-in-Fault-clause-hands : goal.next-returns-in-Fault-clause-hands
+next-returns-in-Fault-clause-hands g t c =
+    hands_fault g.R.TableRow.table_of g.R.RowRef.shown (world c.args.self.now) (values_in c.args.slots.now) c.args.pipe.now c.requires (rows_to_come c.args.base.now) (handed_out c.args.base.now) (rows_to_come c.loop-pulled.base) (handed_out c.loop-pulled.base) (rows_to_come c.pull.new.self) (handed_out c.pull.new.self) c.loop-pulled.invariant.passes
+    c.in-Ok.pulled c.in-Fault.fault (subst (λ r. HandsOut g.R.TableRow.table_of g.R.RowRef.shown c.args.pipe.now.plan (rows_to_come c.loop-pulled.base) (handed_out c.loop-pulled.base) r (rows_to_come c.pull.new.self) (handed_out c.pull.new.self)) c.in-Ok.is c.pull.ensures.hands)
+    (subst (λ o. outcome_stream o ≡ comes g.R.TableRow.table_of g.R.RowRef.shown (world c.args.self.now) (values_in c.args.slots.now) c.args.pipe.now (pulled_value c.in-Ok.pulled)) c.in-Fault.is c.in_ok-item-in-Ok.ensures.meant)
+
+pub next-returns-in-Err-clause-hands : goal.next-returns-in-Err-clause-hands
+next-returns-in-Err-clause-hands g t c =
+    hands_end g.R.TableRow.table_of g.R.RowRef.shown (world c.args.self.now) (values_in c.args.slots.now) c.args.pipe.now c.requires (rows_to_come c.args.base.now) (handed_out c.args.base.now) (rows_to_come c.loop-pulled.base) (handed_out c.loop-pulled.base) (rows_to_come c.pull.new.self) (handed_out c.pull.new.self) c.loop-pulled.invariant.passes c.in-Err.end
+    (subst (λ r. HandsOut g.R.TableRow.table_of g.R.RowRef.shown c.args.pipe.now.plan (rows_to_come c.loop-pulled.base) (handed_out c.loop-pulled.base) r (rows_to_come c.pull.new.self) (handed_out c.pull.new.self)) c.in-Err.is c.pull.ensures.hands)
+
 pub next-loop-pulled-init : goal.next-loop-pulled-init
 next-loop-pulled-init g t c =
     record {
       meant = refl;
       pulled = pulled_none (world c.args.self.now) (facts c.args.self.now.sources) (λ w. is_covered_pipe (world c.args.self.now) w (values_in c.args.slots.now) c.args.pipe.now) _ _;
+      passes = passes_none g.R.TableRow.table_of g.R.RowRef.shown (world c.args.self.now) (values_in c.args.slots.now) c.args.pipe.now (rows_to_come c.args.base.now) (handed_out c.args.base.now);
     }
 
 pub next-loop-pulled-preserved : goal.next-loop-pulled-preserved
@@ -583,6 +603,9 @@ next-loop-pulled-preserved g t c =
           c.loop-pulled.invariant.pulled
           (subst (λ r. IfOk r (λ p. (kept_stream g.R.TableRow.table_of g.R.RowRef.shown c.args.pipe.now.plan c.loop-pulled.base) ≡ in_front (pulled_value p) (kept_stream g.R.TableRow.table_of g.R.RowRef.shown c.args.pipe.now.plan c.pull.new.self))) c.in-Ok.is c.pull.ensures.item)
           (λ w start h i gr. c.pass_pulled.ensures.grows w start h i gr);
+      passes = passes_dropped g.R.TableRow.table_of g.R.RowRef.shown (world c.args.self.now) (values_in c.args.slots.now) c.args.pipe.now c.requires (rows_to_come c.args.base.now) (handed_out c.args.base.now) (rows_to_come c.loop-pulled.base) (handed_out c.loop-pulled.base) (rows_to_come c.pull.new.self) (handed_out c.pull.new.self) c.loop-pulled.invariant.passes
+          c.in-Ok.pulled (subst (λ r. HandsOut g.R.TableRow.table_of g.R.RowRef.shown c.args.pipe.now.plan (rows_to_come c.loop-pulled.base) (handed_out c.loop-pulled.base) r (rows_to_come c.pull.new.self) (handed_out c.pull.new.self)) c.in-Ok.is c.pull.ensures.hands)
+          (subst (λ o. outcome_stream o ≡ comes g.R.TableRow.table_of g.R.RowRef.shown (world c.args.self.now) (values_in c.args.slots.now) c.args.pipe.now (pulled_value c.in-Ok.pulled)) c.in-Dropped.is c.in_ok-item-in-Ok.ensures.meant);
     }
 
 pub read-loop-less-init : goal.read-loop-less-init

@@ -5,4 +5,4 @@ use Rattle.lq_plan.proofs.sources.Sources.rows_of.Goals as goal
 
 pub returns : goal.returns
 returns g c =
-    rows_found (world c.args.self.now) [] _ _ _ _ refl c.reader_at-reader.ensures c.end_at.ensures c.of_rows.ensures
+    rows_found (world c.args.self.now) [] _ _ _ _ refl c.reader_at-reader.ensures c.end_at.ensures c.of_rows.ensures.items

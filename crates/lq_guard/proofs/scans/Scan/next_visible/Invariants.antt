@@ -1,6 +1,6 @@
 use Rattle.std.proofs.Common.{◌≡◌, length}
 use Rattle.lq_guard.specs.SeenRows.{rows_left}
-use Rattle.lq_guard.proofs.scans.ScanIterator.next.Given as goal
+use Rattle.lq_guard.proofs.scans.Scan.next_visible.Given as goal
 
 -- what is left of the rows is what was left before
 abbrev pub invariant-loop-self : goal.invariant-loop-self
