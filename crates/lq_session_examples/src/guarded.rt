@@ -6,7 +6,7 @@ ghost use Rattle.lq_guard.specs.declared.guarded_trees.GuardedTree.{GuardedTree}
 ghost use Rattle.lq_policy.specs.Roles.{number_of};
 
 use crate::policies::policies;
-use lq_guard::{GuardedTree, Scan, guard, scan};
+use lq_guard::{GuardedTree, RowTest, Scan, guard, scan};
 use lq_host::{HostSet, SeenRow};
 use lq_language::Simple;
 use lq_load::table_from_csv;
@@ -78,6 +78,47 @@ fn scans_hand_out_by_action(rt: HostRuntime) -> Result<(), Fail> {
     for (action, numbers) in &HANDED_OUT {
         let mut rows = scan(&store, &policies, 0, role, *action);
         assert!(rt; hands_out(&mut rows, numbers));
+    }
+    Ok(())
+}
+
+/// A test that says the same of every row.
+#[derive(Drop)]
+struct Says {
+    said: Option<bool>,
+}
+
+impl RowTest for Says {
+    ghost verdict_of = { λ says cells. says.said };
+
+    fn verdict(&self, _cells: &[Scalar]) -> Option<bool> {
+        self.said
+    }
+}
+
+/// What a test says of each of the rows 1, 3 and 5, which dan reads, how many were handed out before, the row that is found with whether the
+/// test says yes, and how many are handed out then.
+type Found = (Option<bool>, u64, Option<(u64, bool)>, u64);
+
+const FOUND: [Found; 5] = [
+    (Some(true), 0, Some((1, true)), 1),
+    (None, 7, Some((1, false)), 8),
+    (Some(false), 0, None, 3),
+    (Some(false), u64::MAX - 1, None, u64::MAX),
+    (Some(true), u64::MAX, Some((1, true)), u64::MAX),
+];
+
+#[test]
+fn rows_are_found_and_counted(rt: HostRuntime) -> Result<(), Fail> {
+    let store = store(rt.alloc())?;
+    let policies = policies(rt.alloc(), &store, POLICIES)?;
+    let role = dan(&policies)?;
+    for (said, before, found, after) in &FOUND {
+        let mut rows = scan(&store, &policies, 0, role, Action::Select);
+        let mut handed = *before;
+        let row = rows.find_passing(&Says { said: *said }, &mut handed);
+        let row = row.map(|(row, passes)| (row.number(), passes));
+        assert!(rt; row == *found && handed == *after);
     }
     Ok(())
 }
