@@ -21,7 +21,8 @@ use lq_use::Use;
 use lq_value::Ty;
 use std::alloc::{AllocError, Global};
 
-/// The line of a sequence, whose items are of this type: they are written one by one, and kept nowhere else.
+/// The line of a sequence, whose items are of this type.
+// Each is written as it is pulled, since a list of all of them would take more memory than the line.
 fn items_line<H: Asks>(
     alloc: Global,
     item: &Ty,
