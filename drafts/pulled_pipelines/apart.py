@@ -16,7 +16,7 @@ def moved(t):
         ('Rattle.lq_pipe.proofs.PullLaws','Rattle.lq_pipeline.proofs.PipePullLaws'),('Rattle.lq_pipe.proofs.CountLaws','Rattle.lq_pipeline.proofs.PipeCountLaws'),
         ('Rattle.lq_pull.specs.declared.readers','Rattle.lq_pipeline.specs.declared.readers')): t=t.replace(a,b)
     return t
-for n in ('draining','pipes','context'): os.remove(f'{S}src/{n}.rt')
+for n in ('draining','pipes','firsts','context'): os.remove(f'{S}src/{n}.rt')
 for n in ('Contexts','Evaluations','Pipes'): os.remove(f'{S}specs/{n}.antt')
 os.remove(f'{S}proofs/ContextLemmas.antt'); shutil.rmtree(f'{S}proofs/context'); shutil.rmtree(f'{S}proofs/reading/pull')
 for folder in ('specs','proofs'):
