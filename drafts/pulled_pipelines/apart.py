@@ -1,7 +1,7 @@
 # Makes of a copy of the repository, to which pipes.patch was applied, one in which lq_pipeline stands on lq_plan alone:
 #     apart.py COPY
-# What lq_pipe and lq_pull have for it is copied into the crate, and `pull`, `next_item`'s only caller, is a method of a trait that nothing
-# implements. So each of its functions can be judged, in half a minute, before lq_pipe is proved.
+# What lq_pipe and lq_pull have for it is copied into the crate, and `pull`, `next_item`'s only caller, and `form_value` are methods of a trait that
+# nothing implements. So each of its functions can be judged, in half a minute, before lq_pipe is proved.
 import os,re,shutil,sys
 root=os.path.realpath(sys.argv[1]); os.chdir(root)
 GONE=['lq_pull','lq_pipe','lq_run','lq_session','lq_audit','lq_serve','lq_prompt','lq_conversation','lq_platform','lq','lq_desk','lq_pipeline_examples','lq_session_examples','lq_examples']
@@ -16,7 +16,7 @@ def moved(t):
         ('Rattle.lq_pipe.proofs.PullLaws','Rattle.lq_pipeline.proofs.PipePullLaws'),('Rattle.lq_pipe.proofs.CountLaws','Rattle.lq_pipeline.proofs.PipeCountLaws'),
         ('Rattle.lq_pull.specs.declared.readers','Rattle.lq_pipeline.specs.declared.readers')): t=t.replace(a,b)
     return t
-for n in ('draining','pipes','firsts','context'): os.remove(f'{S}src/{n}.rt')
+for n in ('draining','pipes','context'): os.remove(f'{S}src/{n}.rt')
 for n in ('Contexts','Evaluations','Pipes'): os.remove(f'{S}specs/{n}.antt')
 os.remove(f'{S}proofs/ContextLemmas.antt'); shutil.rmtree(f'{S}proofs/context'); shutil.rmtree(f'{S}proofs/reading/pull')
 for folder in ('specs','proofs'):
@@ -59,7 +59,20 @@ t=moved(read(S+'src/pulling.rt')).replace('use crate::reading::{are_true, has_it
 t=re.sub(r"fn (next_row|simple_value|given_value|all_value|contains_value|up_to|next_of)<'a, H",r"fn \1<'a, P: Puller, H",t)
 t=t.replace('=> pull(sources','=> P::pull(sources').replace('=> read(sources','=> read::<P, _, _, _>(sources').replace('truth(has_item(','truth(has_item::<P, _, _, _>(').replace('truth(are_true(','truth(are_true::<P, _, _, _>(').replace('match up_to(','match up_to::<P, _>(').replace('match next_of(','match next_of::<P, _>(')
 write(S+'src/pulling.rt',t)
-write(S+'src/lib.rt','//! lq_pipeline apart from lq_pipe.\n#![tactic(auto)]\n\nmod chains;\nmod giving;\npub mod laziness_laws;\nmod pulling;\nmod readers;\nmod reading;\nmod steps;\n\npub use steps::Step;\n')
+t=moved(read(S+'src/firsts.rt')).replace('use lq_pipe::{Base, form_value};\nuse lq_plan::Sources;\nuse lq_pull::Reader;','use crate::readers::Reader;\nuse crate::reading::Puller;\nuse lq_plan::{Base, Sources};')
+t=re.sub(r"fn (first_given|first)<'a, H",r"fn \1<'a, P: Puller, H",t).replace('found(form_value(','found(P::form_value(')
+for n in ('next_row','given_value','contains_value','simple_value','all_value','first_given'): t=re.sub(rf'(?<!fn )\b{n}\(',f'{n}::<P, _>(',t)
+write(S+'src/firsts.rt',t)
+trees=read('crates/lq_pipe/src/trees.rt'); i=trees.index('pub fn form_value'); sig=trees[i:trees.index('\n{\n',i)].replace('pub fn','fn')
+uses=[l for l in trees.split('\n') if l.startswith('ghost use') and any(n in l for n in ('IsAnswer','form_meaning','facts_of','HaveDistinct'))]+['ghost use Rattle.lq_pipeline.specs.Apart.{AddsCovered};','ghost use Rattle.std.specs.Prelude.{[]};']
+r=read(S+'src/reading.rt').replace('pub trait Puller {\n','pub trait Puller {\n'+'\n'.join('    '+u for u in uses)+'\n',1)
+k=r.index('\n}\n\n',r.index('pub trait Puller'))
+r=r[:k]+'\n\n'+'\n'.join('    '+l for l in sig.split('\n'))+';'+r[k:]
+write(S+'src/reading.rt',r.replace('use lq_value::{End, Fault, List, Value, same};\nuse std::alloc::AllocError;','use lq_plan::{RunError, TableRows};\nuse lq_tree::Form;\nuse lq_value::{End, Fault, List, Value, same};\nuse std::alloc::{AllocError, Global};'))
+q=read('crates/lq_pipe/specs/Pulls.antt'); q=q[q.index('-- what a form asks where no slot is filled'):q.index('module _ {R : Type 0} (world : World R) (pipe : Pipe) where\n  -- and where a growth')]
+a=read(S+'specs/Apart.antt').replace('use Rattle.lq_tree.specs.Watches.{RowFacts}','use Rattle.lq_tree.specs.Watches.{HasGrown, RowFacts, Watch, is_covered}\nuse Rattle.lq_tree.specs.declared.tree.Form.{Form}\nuse Rattle.lq_language.specs.Worlds.{World}\nuse Rattle.lq_host.specs.declared.call.Call.{Call}\nuse Rattle.std.specs.Prelude.{List, true}')
+write(S+'specs/Apart.antt',a+'\n'+q)
+write(S+'src/lib.rt','//! lq_pipeline apart from lq_pipe.\n#![tactic(auto)]\n\nmod chains;\nmod firsts;\nmod giving;\npub mod laziness_laws;\nmod pulling;\nmod readers;\nmod reading;\nmod steps;\n\npub use steps::Step;\n')
 for folder in ('specs','proofs'): write(f'{S}{folder}/Lib.antt',''.join(f'pub mod {n[:-5]}\n' for n in sorted(os.listdir(S+folder)) if n.endswith('.antt') and n!='Lib.antt'))
 lines=[l for l in read('crates.txt').split('\n') if l.split(':')[0] not in GONE]
 lines=['lq_pipeline: lq_sink lq_plan lq_operators lq_guard lq_policy lq_host lq_condition lq_tree lq_scalar lq_store lq_machine lq_security lq_language lq_grammar lq_value' if l.startswith('lq_pipeline:') else l for l in lines]
