@@ -14,7 +14,7 @@ use lq_value::{Row, Scalar};
 #[derive(Clone, Copy, Drop)]
 pub struct Scan<'a, 'r> {
     pub(crate) access: Access<'a>,
-    pub(crate) rows: &'a [Row],
+    rows: &'a [Row],
     // What was worked out once, if it was: it is asked in place of the policies.
     rules: Option<&'r RowRules<'a>>,
     ghost rules_agree: { ForSome rules (λ given. (cells : List Scalar)
@@ -48,7 +48,7 @@ impl<'a, 'r> Scan<'a, 'r> {
 
     /// Whether the row that has these cells is handed out.
     #[inline(always)]
-    pub(crate) fn is_admitted(&self, cells: &[Scalar]) -> bool
+    fn is_admitted(&self, cells: &[Scalar]) -> bool
         ensures { result ≡ is_visible_to self.now.access cells.now }
     {
         match self.rules {

@@ -21,7 +21,7 @@ use Rattle.lq_plan.specs.declared.bases.Pulled.{Pulled}
 use Rattle.lq_plan.specs.declared.bases.Pulled.TheVariants as pulled
 use Rattle.lq_plan.specs.declared.pipes.Pipe.{Pipe}
 use Rattle.lq_plan.proofs.PlanLaws.{row_says}
-use Rattle.lq_pipe.specs.Handing.{GivesNothing, HandsUpTo, Passes, PassesAll, Settles}
+use Rattle.lq_pipe.specs.Handing.{GivesNothing, HandsAtMost, HandsUpTo, Passes, PassesAll, Settles}
 
 every_as : {A : Type 0} (P Q : A → Type 0) → ((x : A) → P x → Q x) → (xs : List A) → Every P xs → Every Q xs
 every_as P Q is [] ps = every_none Q
@@ -105,3 +105,12 @@ module _ {R : Type 0} (table_of : R → ℕ) (shown : R → List Scalar) (world 
       pub hands_end : (e : End) → HandsOut table_of shown pipe.plan rows m (Err e) left k → HandsUpTo world slots pipe start n (Err e) left k
       hands_end end.Done hands = all_out hands
       hands_end (end.Fault f) hands = inr (all_out hands)
+
+      -- whatever comes, nothing comes of the rows before the last one
+      pub at_most : (p : Pulled R) → HandsOut table_of shown pipe.plan rows m (Ok p) left k → HandsAtMost world slots pipe start n left k
+      at_most (pulled.Row r) hands = inl (r, (hands.0, up_to r hands.0 hands.1, hands.2))
+      at_most (pulled.Item x) (inl row) = inl (row.0, (row.2.0, up_to row.0 row.2.0 row.2.1, row.2.2))
+      at_most (pulled.Item x) (inr all) = inr (all_out all)
+
+      pub at_most_end : (e : End) → HandsOut table_of shown pipe.plan rows m (Err e) left k → HandsAtMost world slots pipe start n left k
+      at_most_end e hands = inr (all_out hands)

@@ -1,11 +1,11 @@
 pub mod AnswerLemmas
-pub mod CountLemmas
+pub mod CountLaws
 pub mod DrainLemmas
 pub mod HandingLemmas
 pub mod ItemLemmas
 pub mod KeyLemmas
 pub mod LogLemmas
-pub mod PullLemmas
+pub mod PullLaws
 pub mod RowLemmas
 pub mod Sizes
 pub mod StreamLemmas

@@ -41,3 +41,7 @@ module _ {R : Type 0} (world : World R) (slots : Slots R) (pipe : Pipe) where
   HandsUpTo rows n (Ok x) left m = Settles rows n (x ∷ [], end.Done) left m ⊎ PassesAll rows n left m
   HandsUpTo rows n (Err (end.Fault f)) left m = Settles rows n ([], end.Fault f) left m ⊎ PassesAll rows n left m
   HandsUpTo rows n (Err end.Done) left m = PassesAll rows n left m
+
+  -- Whatever comes of the rows, and where a growth is refused: nothing comes of those that are handed out, but perhaps of the last one.
+  abbrev pub HandsAtMost : List R → ℕ → List R → ℕ → Type 0
+  HandsAtMost rows n left m = ((r : R) × ((k : ℕ) × Passes rows n (r ∷ left) k × (m ≡ one_more k))) ⊎ PassesAll rows n left m

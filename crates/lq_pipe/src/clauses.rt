@@ -74,7 +74,7 @@ impl<'a, R: TableRow, S: Reads<R>, H: Asks> Running<'a, R, S, H> {
 
     /// The same of each item of a pipe, up to the first fault.
     #[cycle(running)]
-    #[tactic(auto, using(crate::proofs::PullLemmas::expands))]
+    #[tactic(auto, using(crate::proofs::PullLaws::expands))]
     fn expand(
         &self,
         pipe: &Pipe<'_>,
@@ -167,7 +167,7 @@ impl<'a, R: TableRow, S: Reads<R>, H: Asks> Running<'a, R, S, H> {
 
     /// The keys of the items of a source with their elements, up to the first fault.
     #[cycle(running)]
-    #[tactic(auto, using(crate::proofs::PullLemmas::selects))]
+    #[tactic(auto, using(crate::proofs::PullLaws::selects))]
     fn key_pairs(
         &self,
         source: &Form,
@@ -269,7 +269,7 @@ impl<'a, R: TableRow, S: Reads<R>, H: Asks> Running<'a, R, S, H> {
 
     /// What comes of each outer item of a pipe, up to the first fault.
     #[cycle(running)]
-    #[tactic(auto, using(crate::proofs::PullLemmas::expands))]
+    #[tactic(auto, using(crate::proofs::PullLaws::expands))]
     fn join_items(
         &self,
         joined: &Joined<Form>,

@@ -69,7 +69,7 @@ impl<'a, R: TableRow, S: Reads<R>, H: Asks> Running<'a, R, S, H> {
     }
 
     /// Gives the items of a pipe to a sink until it stops, and returns how they end.
-    #[tactic(auto, using(crate::proofs::PullLemmas::reads))]
+    #[tactic(auto, using(crate::proofs::PullLaws::reads))]
     fn drain_pipe<K: Sink<R>>(
         &self,
         pipe: &Pipe<'_>,

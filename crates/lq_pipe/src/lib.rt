@@ -21,4 +21,4 @@ pub use draining::drain;
 pub use lq_plan::{Base, Gathered, Pipe, Plan, Reads, Rows, RunError, TableRow, TableRows};
 pub use pulls::next_item;
 pub use rows::numbers_where;
-pub use trees::{run, value};
+pub use trees::{form_value, run, value};

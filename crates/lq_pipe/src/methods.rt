@@ -85,7 +85,7 @@ impl<'a, R: TableRow, S: Reads<R>, H: Asks> Running<'a, R, S, H> {
     /// The same on the items of a pipe, of which only those that the method reads are pulled. What makes a
     /// number of them keeps no list.
     #[cycle(running)]
-    #[tactic(auto, using(crate::proofs::CountLemmas::tally_answers))]
+    #[tactic(auto, using(crate::proofs::CountLaws::tally_answers))]
     fn simple_items(
         &self,
         method: Simple,
@@ -114,7 +114,7 @@ impl<'a, R: TableRow, S: Reads<R>, H: Asks> Running<'a, R, S, H> {
     /// The number that a tally comes to over the items of a pipe.
     #[cycle(running)]
     #[inline(never)]
-    #[tactic(auto, using(crate::proofs::CountLemmas::tallies))]
+    #[tactic(auto, using(crate::proofs::CountLaws::tallies))]
     fn tally(
         &self,
         tally: Tally,
@@ -199,7 +199,7 @@ impl<'a, R: TableRow, S: Reads<R>, H: Asks> Running<'a, R, S, H> {
     /// Whether an item is the same as a value. Nothing is pulled after the first that is.
     #[cycle(running)]
     #[inline(never)]
-    #[tactic(auto, using(crate::proofs::CountLemmas::contains_steps))]
+    #[tactic(auto, using(crate::proofs::CountLaws::contains_steps))]
     fn has_item(
         &self,
         value: &Value<R>,
@@ -252,7 +252,7 @@ impl<'a, R: TableRow, S: Reads<R>, H: Asks> Running<'a, R, S, H> {
 
     /// The same of the items of a pipe.
     #[cycle(running)]
-    #[tactic(auto, using(crate::proofs::CountLemmas::all_steps))]
+    #[tactic(auto, using(crate::proofs::CountLaws::all_steps))]
     fn all_hold(
         &self,
         condition: &Form,

@@ -23,8 +23,8 @@ impl<'a, R: TableRow, S: Reads<R>, H: Asks> Running<'a, R, S, H> {
     ghost use Rattle.lq_tree.specs.Watches.{Watch, has_watched_rows, have_watched_rows};
     ghost use Rattle.lq_plan.specs.Watching.{is_covered_pipe, watches};
     ghost use Rattle.lq_pipe.specs.Runs.{IsPlanned, world, Grown, HasTaken, covers, covers_above, covers_stage};
-    ghost use Rattle.lq_plan.specs.Handing.{handed_out, rows_to_come};
-    ghost use Rattle.lq_pipe.specs.Handing.{HandsUpTo};
+    ghost use Rattle.lq_plan.specs.Handing.{StaysOfRows, handed_out, rows_to_come};
+    ghost use Rattle.lq_pipe.specs.Handing.{HandsAtMost, HandsUpTo};
     ghost use Rattle.lq_pipe.specs.Steps.{Steps};
 
     /// The items of a form, as a base of their own.
@@ -188,7 +188,7 @@ impl<'a, R: TableRow, S: Reads<R>, H: Asks> Running<'a, R, S, H> {
     /// What comes of a row that passes the conditions above its table, at the stage of a pipe: a lambda
     /// gives the cell that was planned, if there is one.
     #[cycle(running)]
-    #[tactic(auto, using(crate::proofs::PullLemmas::row_selected))]
+    #[tactic(auto, using(crate::proofs::PullLaws::row_selected))]
     fn pass_row(
         &self,
         pipe: &Pipe<'_>,
@@ -247,7 +247,7 @@ impl<'a, R: TableRow, S: Reads<R>, H: Asks> Running<'a, R, S, H> {
     /// The next item of a pipe, or how they end.
     #[cycle(running)]
     #[inline(never)]
-    #[tactic(auto, using(crate::proofs::PullLemmas::next_steps))]
+    #[tactic(auto, using(crate::proofs::PullLaws::next_steps))]
     pub(crate) fn next(
         &self,
         pipe: &Pipe<'_>,
@@ -263,6 +263,10 @@ impl<'a, R: TableRow, S: Reads<R>, H: Asks> Running<'a, R, S, H> {
         ensures hands { IfOk result (λ step. HandsUpTo (world self.now) (values_in slots.now)
             pipe.now (rows_to_come base.old) (handed_out base.old) step
             (rows_to_come base.new) (handed_out base.new)) }
+        ensures within { HandsAtMost (world self.now) (values_in slots.now) pipe.now
+            (rows_to_come base.old) (handed_out base.old)
+            (rows_to_come base.new) (handed_out base.new) }
+        ensures alone { StaysOfRows base.old base.new }
     {
         loop {
             match base.pull(&pipe.plan) {
@@ -280,7 +284,7 @@ impl<'a, R: TableRow, S: Reads<R>, H: Asks> Running<'a, R, S, H> {
     /// nothing is pulled after the last of them, and where the limit is 0 the source isn't opened.
     #[cycle(running)]
     #[inline(never)]
-    #[tactic(auto, using(crate::proofs::PullLemmas::reads))]
+    #[tactic(auto, using(crate::proofs::PullLaws::reads))]
     pub(crate) fn read(
         &self,
         limit: Option<usize>,

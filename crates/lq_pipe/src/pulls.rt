@@ -1,8 +1,9 @@
 //! The pulling of items by who keeps the base.
 ghost use Rattle.std.specs.Prelude.{◌≡◌, [], IfOk};
+ghost use Rattle.lq_plan.specs.Handing.{StaysOfRows};
 ghost use Rattle.lq_plan.specs.Watching.{facts_of};
 ghost use Rattle.lq_plan.specs.Worlds.{HaveDistinctColumns, schemas_in, world_of};
-ghost use Rattle.lq_pipe.specs.Pulls.{CallsOnTaken, HandsOn, IsPlanned, StepsOn};
+ghost use Rattle.lq_pipe.specs.Pulls.{CallsOnTaken, HandsOn, HandsWithin, IsPlanned, StepsOn};
 
 use crate::running::Running;
 use lq_host::{Asks, Log};
@@ -11,7 +12,8 @@ use lq_value::{End, Value};
 use std::alloc::{AllocError, Global};
 
 /// The next item of a pipe, or how the items end: rows are handed out by the base up to the first one of which an item or a fault comes, and no
-/// further. The conditions and lambdas of the pipe read these tables, and ask these host predicates. Refused where no memory was left.
+/// further, also where a growth is refused. The conditions and lambdas of the pipe read these tables, and ask these host predicates. Refused where
+/// no memory was left.
 pub fn next_item<'a, R: TableRow, S: Reads<R>, H: Asks>(
     alloc: Global,
     pipe: &Pipe<'_>,
@@ -32,6 +34,10 @@ pub fn next_item<'a, R: TableRow, S: Reads<R>, H: Asks>(
     ensures hands { IfOk result (λ step. HandsOn R.table_of R.shown
         (world_of R.table_of R.shown S.left (H.known hosts.now) tables.now) pipe.now
         base.old step base.new) }
+    ensures within { HandsWithin
+        (world_of R.table_of R.shown S.left (H.known hosts.now) tables.now) pipe.now
+        base.old base.new }
+    ensures alone { StaysOfRows base.old base.new }
 {
     let sources = Sources::new(alloc, tables, hosts);
     let running = Running { sources };

@@ -78,9 +78,9 @@ pub enum Pulled<R> {
 }
 
 impl<R: TableRow, S: Reads<R>> Base<R, S> {
-    ghost use Rattle.std.specs.Prelude.{◌≡◌};
+    ghost use Rattle.std.specs.Prelude.{◌≡◌, []};
     ghost use Rattle.lq_plan.specs.Bases.{rows_by};
-    ghost use Rattle.lq_plan.specs.Handing.{handed_out, rows_to_come};
+    ghost use Rattle.lq_plan.specs.Handing.{handed_out, items_to_come, rows_to_come};
     ghost use Rattle.lq_plan.specs.Pulling.{base_stream};
 
     /// The rows that a reader hands out, behind which they end so; none where there is no reader.
@@ -88,6 +88,7 @@ impl<R: TableRow, S: Reads<R>> Base<R, S> {
     pub(crate) fn of_rows(alloc: Global, rows: Option<S>, end: End) -> Base<R, S>
         ensures items { base_stream result ≡ (map value.Row (rows_by S.left rows), end) }
         ensures rows { rows_to_come result ≡ rows_by S.left rows }
+        ensures alone { items_to_come result ≡ [] }
         ensures none { handed_out result ≡ 0 }
     {
         let rows = Left::new(rows);
@@ -127,7 +128,7 @@ impl<R: TableRow, S: Reads<R>> Base<R, S> {
 impl<R: TableRow, S: Reads<R>> Base<R, S> {
     ghost use Rattle.std.specs.Prelude.{◌≡◌, [], IfOk, IfErr};
     ghost use Rattle.lq_language.specs.Enumerable.{in_front};
-    ghost use Rattle.lq_plan.specs.Handing.{HandsOut, handed_out, rows_to_come};
+    ghost use Rattle.lq_plan.specs.Handing.{HandsOut, StaysOfRows, handed_out, rows_to_come};
     ghost use Rattle.lq_plan.specs.PlannedRows.{IsPulled, kept_stream, pulled_value};
 
     /// The next item that was made, or how they end, where no row is left.
@@ -144,6 +145,7 @@ impl<R: TableRow, S: Reads<R>> Base<R, S> {
             ≡ []) }
         ensures hands { HandsOut R.table_of R.shown plan.now (rows_to_come self.old)
             (handed_out self.old) result (rows_to_come self.new) (handed_out self.new) }
+        ensures alone { StaysOfRows self.old self.new }
     {
         match self.items.pop() {
             Some(item) => Ok(Pulled::Item(item)),
@@ -165,6 +167,7 @@ impl<R: TableRow, S: Reads<R>> Base<R, S> {
             ≡ []) }
         ensures hands { HandsOut R.table_of R.shown plan.now (rows_to_come self.old)
             (handed_out self.old) result (rows_to_come self.new) (handed_out self.new) }
+        ensures alone { StaysOfRows self.old self.new }
     {
         match self.rows.next_passing(plan, &mut self.handed) {
             Some((row, true)) => Ok(Pulled::Row(row)),

@@ -63,7 +63,7 @@ pub struct Sources<'a, R: TableRow, S: Reads<R>, H: Asks> {
 }
 
 impl<'a, R: TableRow, S: Reads<R>, H: Asks> Sources<'a, R, S, H> {
-    ghost use Rattle.std.specs.Prelude.{◌≡◌, IfOk, List, Ok, map, slice_get, true};
+    ghost use Rattle.std.specs.Prelude.{◌≡◌, [], IfOk, List, Ok, map, slice_get, true};
     ghost use Rattle.lq_value.specs.declared.value.Value.{out-Value};
     ghost use Rattle.lq_language.specs.OperandMeaning.{stream_of, table_value};
     ghost use Rattle.lq_operators.specs.Answers.{IsAnswer};
@@ -74,6 +74,7 @@ impl<'a, R: TableRow, S: Reads<R>, H: Asks> Sources<'a, R, S, H> {
     ghost use Rattle.lq_host.specs.declared.call.Call.{Call};
     ghost use Rattle.lq_tree.specs.Watches.{Watch, has_watched_rows};
     ghost use Rattle.lq_plan.specs.Bases.{rows_by};
+    ghost use Rattle.lq_plan.specs.Handing.{handed_out, items_to_come, rows_to_come};
     ghost use Rattle.lq_plan.specs.Plans.{world};
     ghost use Rattle.lq_plan.specs.Watching.{Grown, covers_part};
     ghost use Rattle.lq_plan.specs.Pulling.{base_stream, end_of, rows_or_none};
@@ -167,8 +168,12 @@ impl<'a, R: TableRow, S: Reads<R>, H: Asks> Sources<'a, R, S, H> {
     /// the fault of a form without meaning where there is no such table: no typed tree has one.
     #[tactic(auto, using(crate::proofs::PullLaws::rows_found))]
     pub fn rows_of(&self, number: TableNumber) -> Base<R, S>
-        ensures { base_stream result ≡ stream_of (world self.now)
+        ensures items { base_stream result ≡ stream_of (world self.now)
             (table_value (world self.now) (slice_get (world self.now).rows number)) }
+        ensures rows { rows_to_come result
+            ≡ rows_or_none (slice_get (world self.now).rows number) }
+        ensures alone { items_to_come result ≡ [] }
+        ensures none { handed_out result ≡ 0 }
     {
         let reader = self.reader_at(number);
         Base::of_rows(self.alloc, reader, self.end_at(number))

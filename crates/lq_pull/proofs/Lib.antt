@@ -1,5 +1,4 @@
 pub mod ColumnLemmas
-pub mod ContextLemmas
 pub mod PreparingLemmas
 pub mod SeenLemmas
 pub mod TableLemmas

@@ -1,4 +1,3 @@
-pub mod Contexts
 pub mod Evaluations
 pub mod Readers
 pub mod Views

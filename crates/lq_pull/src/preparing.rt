@@ -169,3 +169,11 @@ pub(crate) fn reader_of<'a, 'b>(
         Prepared::Rows(rows) => Reader::Gathered(Gathered::new(rows.as_slice())),
     }
 }
+
+/// What hands out the rows of a table that the role sees, where nothing was prepared of it.
+pub(crate) fn unprepared<'a>(view: &View<'a>, table: TableNumber) -> Reader<'a, 'a>
+    requires { table < length view.now.store.now }
+    ensures { AreRowsFor (sight_of view.now) action.Select table (rows_left result) }
+{
+    Reader::Scan(scan(view.store, view.policies, table, view.role, Action::Select))
+}

@@ -6,7 +6,7 @@ use lq_pipe::{Gathered, Plan, Reads, Rows};
 
 /// What hands out the rows of a table with which a role may do something.
 #[derive(Drop)]
-pub(crate) enum Reader<'a, 'b> {
+pub enum Reader<'a, 'b> {
     /// A scan, which asks about each row as it comes to it.
     Scan(Scan<'a, 'b>),
     /// Rows that were gathered before.

@@ -1,21 +1,14 @@
-//! Guarded leaves and guarded trees, by the public calls that no statement shows alone: the rows that a scan hands out for each action, and
-//! the items and the value of a tree that is guarded for select.
+//! Guarded leaves, by the public calls that no statement shows alone: the rows that a scan hands out for each action.
 ghost use Rattle.std.specs.Prelude.{◌≡◌, ◌<◌, length, IfOk};
-ghost use Rattle.lq_security.specs.declared.policy.Action.TheVariants as action;
-ghost use Rattle.lq_guard.specs.declared.guarded_trees.GuardedTree.{GuardedTree};
-ghost use Rattle.lq_policy.specs.Roles.{number_of};
 
 use crate::policies::policies;
-use lq_guard::{GuardedTree, RowTest, Scan, guard, scan};
+use lq_guard::{RowTest, Scan, scan};
 use lq_host::{HostSet, SeenRow};
-use lq_language::Simple;
 use lq_load::table_from_csv;
 use lq_policy::{Action, Policies, RoleId};
-use lq_pull::{Ctx, run, value};
 use lq_store::Store;
-use lq_tree::{Form, Tree};
-use lq_value::{End, Held, RowRef, Scalar, Txt, Ty, Value};
-use std::alloc::{AllocError, Global};
+use lq_value::{Scalar, Txt};
+use std::alloc::Global;
 use std::test::Fail;
 
 /// Rows are read with a dept below 3, and removed where they are read and the dept is above 1.
@@ -121,77 +114,4 @@ fn rows_are_found_and_counted(rt: HostRuntime) -> Result<(), Fail> {
         assert!(rt; row == *found && handed == *after);
     }
     Ok(())
-}
-
-fn tree(alloc: Global, ty: Ty, form: Form) -> Result<Tree, AllocError> {
-    let form = Held::new(alloc, form)?;
-    Ok(Tree { ty, form })
-}
-
-// `employees.Count()`, or the rows of the table.
-fn guarded(alloc: Global, counted: bool, role: RoleId) -> Result<GuardedTree, AllocError>
-    ensures role { IfOk result (λ g. g.role ≡ role) }
-    ensures action { IfOk result (λ g. g.action ≡ action.Select) }
-{
-    let rows = Form::Table(0);
-    let row = Ty::Row(0);
-    let tree = if counted {
-        let rows = Held::new(alloc, rows)?;
-        tree(alloc, Ty::Int, Form::Simple(Simple::Count, row, rows))?
-    } else {
-        tree(alloc, Ty::Seq(Held::new(alloc, row)?), rows)?
-    };
-    Ok(guard(tree, role, Action::Select))
-}
-
-// Whether the second of these is the row of that id.
-fn has_id<R: RowRef>(value: &Value<R>, id: i32) -> bool {
-    match value {
-        Value::Row(row) => match row.cells() {
-            [Scalar::Int(found), ..] => *found == id,
-            _ => false,
-        },
-        _ => false,
-    }
-}
-
-fn have_ids<R: RowRef>(values: &[Value<R>], ids: &[i32]) -> bool {
-    values.len() == ids.len() && values.iter().zip(ids).all(|(value, id)| has_id(value, *id))
-}
-
-#[test]
-fn a_guarded_tree_has_the_rows_that_are_read(rt: HostRuntime) -> Result<(), Fail> {
-    let store = store(rt.alloc())?;
-    let policies = policies(rt.alloc(), &store, POLICIES)?;
-    let role = dan(&policies)?;
-    let tree = guarded(rt.alloc(), false, role)?;
-    let mut hosts = HostSet::new(rt.alloc());
-    let mut context = Ctx {
-        store: &store,
-        policies: &policies,
-        role,
-        hosts: &mut hosts,
-    };
-    let (items, end) = run(rt.alloc(), &tree, &mut context)?;
-    assert!(rt; have_ids(items.as_slice(), &[1, 3, 5]) && end == End::Done);
-    Ok(())
-}
-
-#[test]
-fn a_guarded_tree_has_their_count(rt: HostRuntime) -> Result<(), Fail> {
-    let store = store(rt.alloc())?;
-    let policies = policies(rt.alloc(), &store, POLICIES)?;
-    let role = dan(&policies)?;
-    let tree = guarded(rt.alloc(), true, role)?;
-    let mut hosts = HostSet::new(rt.alloc());
-    let mut context = Ctx {
-        store: &store,
-        policies: &policies,
-        role,
-        hosts: &mut hosts,
-    };
-    match value(rt.alloc(), &tree, &mut context)? {
-        Ok(Value::Scalar(Scalar::Int(3))) => Ok(()),
-        _ => Err(Fail::from("the count isn't 3")),
-    }
 }

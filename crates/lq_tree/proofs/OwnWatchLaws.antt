@@ -1,5 +1,5 @@
 -- The watch of a form's own host predicates covers the form where all rows of all tables pass.
-use Rattle.std.proofs.Common.{◌≡◌, ◌==◌, ◌∷◌, ◌++◌, ◌&&◌, List, [], map, flat_map, ℕ, Bool, true, Some, ap, ◌∙◌, sym, refl, subst, slice_get}
+use Rattle.std.proofs.Common.{◌≡◌, ◌==◌, ◌∷◌, ◌++◌, ◌&&◌, List, [], map, flat_map, ℕ, Bool, true, true≢false, false, Some, ap, ◌∙◌, sym, refl, subst, slice_get}
 use Rattle.std.specs.Cmp.{first_so, second_so, unsigned_Decides}
 use Rattle.std.specs.List.{list_all}
 use Rattle.std.proofs.lemmas.Map.Keys.{any_passes_from_place}
@@ -31,29 +31,35 @@ host_itself p t columns =
     both_so (p == p) ((t == t) && same_columns columns columns) ((unsigned_Decides p p).1 refl)
     (both_so (t == t) (same_columns columns columns) ((unsigned_Decides t t).1 refl) (columns_themselves columns))
 
--- whether a host predicate that is mentioned is one of these
-abbrev pub is_one_of : List Mention → Mention → Bool
-is_one_of named (HostAt p t columns) = is_mentioned named p t columns
-is_one_of named (Table t) = true
-is_one_of named (Column t c) = true
+-- whether a host predicate that is mentioned is one of these, and a table one that passes
+abbrev pub is_one_of : (ℕ → Bool) → List Mention → Mention → Bool
+is_one_of passing named (HostAt p t columns) = is_mentioned named p t columns
+is_one_of passing named (Table t) = passing t
+is_one_of passing named (Column t c) = true
 
-own_there : (named : List Mention) (k : ℕ) (m : Mention) → slice_get named k ≡ Some m → is_one_of named m ≡ true
+abbrev pub any_table : ℕ → Bool
+any_table t = true
+
+abbrev pub no_table : ℕ → Bool
+no_table t = false
+
+own_there : (named : List Mention) (k : ℕ) (m : Mention) → slice_get named k ≡ Some m → is_one_of any_table named m ≡ true
 own_there named k (HostAt p t columns) is = any_passes_from_place (is_host p t columns) named k (HostAt p t columns) is (host_itself p t columns)
 own_there named k (Table t) is = refl
 own_there named k (Column t c) is = refl
 
-all_own : (named : List Mention) → list_all (is_one_of named) named ≡ true
-all_own named = all_places (is_one_of named) named (own_there named)
+pub all_own : (named : List Mention) → list_all (is_one_of any_table named) named ≡ true
+all_own named = all_places (is_one_of any_table named) named (own_there named)
 
 -- ---- forms whose host predicates are among those that are named
 
-module _ {R : Type 0} (world : World R) (seen : R → Bool) (named : List Mention) where
+module _ {R : Type 0} (world : World R) (seen : R → Bool) (named : List Mention) (passing : ℕ → Bool) where
   -- the rows that pass the test, and these host predicates
   abbrev pub named_watch : Watch R
   named_watch = record { row = seen; host = is_mentioned named }
 
   abbrev AllPass : Type 0
-  AllPass = (n : ℕ) → is_watched_table named_watch (slice_get world.rows n) ≡ true
+  AllPass = (n : ℕ) → passing n ≡ true → is_watched_table named_watch (slice_get world.rows n) ≡ true
 
   abbrev C : Form → Bool
   C = is_covered world named_watch
@@ -62,10 +68,10 @@ module _ {R : Type 0} (world : World R) (seen : R → Bool) (named : List Mentio
   U = form_uses
 
   abbrev all_named : List Mention → Bool
-  all_named used = list_all (is_one_of named) used
+  all_named used = list_all (is_one_of passing named) used
 
   abbrev Covers : Form → Type 0
-  Covers f = list_all (is_one_of named) (form_uses f) ≡ true → is_covered world named_watch f ≡ true
+  Covers f = list_all (is_one_of passing named) (form_uses f) ≡ true → is_covered world named_watch f ≡ true
 
   abbrev Such : Type 0
   Such = (f : Form) × Covers f
@@ -77,10 +83,10 @@ module _ {R : Type 0} (world : World R) (seen : R → Bool) (named : List Mentio
   plain layer = map-Form Such Form base layer
 
   before : (used more : List Mention) → all_named (used ++ more) ≡ true → all_named used ≡ true
-  before = all_before (is_one_of named)
+  before = all_before (is_one_of passing named)
 
   behind : (used more : List Mention) → all_named (used ++ more) ≡ true → all_named more ≡ true
-  behind = all_behind (is_one_of named)
+  behind = all_behind (is_one_of passing named)
 
   two_covered : (x z : Such) → all_named (U x.0 ++ U z.0) ≡ true → (C x.0 && C z.0) ≡ true
   two_covered x z h = both_so (C x.0) (C z.0) (x.1 (before (U x.0) (U z.0) h)) (z.1 (behind (U x.0) (U z.0) h))
@@ -119,7 +125,7 @@ module _ {R : Type 0} (world : World R) (seen : R → Bool) (named : List Mentio
   layer_own tables (Form-F.Slot n) h = refl
   layer_own tables (Form-F.First x) h = x.1 h
   layer_own tables (Form-F.Second x) h = x.1 h
-  layer_own tables (Form-F.Table n) h = tables n
+  layer_own tables (Form-F.Table n) h = tables n (first_so (passing n) true h)
   layer_own tables (Form-F.Column x t c) h = x.1 (before (U x.0) (Column t c ∷ []) h)
   layer_own tables (Form-F.Host p x t columns) h =
       let rest = U x.0 ++ columns_named t columns in
@@ -166,13 +172,19 @@ module _ {R : Type 0} (world : World R) (seen : R → Bool) (named : List Mentio
       covered_at world named_watch (roll-Form (plain y)) (out-roll-Form (plain y))
       ∙ layer_own tables y (ap all_named (sym (uses_at (roll-Form (plain y)) (out-roll-Form (plain y)))) ∙ h)
 
-  -- the watch of what is named covers each form whose host predicates are named
-  pub covered_by_names : ((n : ℕ) → is_watched_table named_watch (slice_get world.rows n) ≡ true) → (f : Form)
-      → list_all (is_one_of named) (form_uses f) ≡ true → is_covered world named_watch f ≡ true
+  -- the watch of what is named covers each form whose host predicates are named, and whose tables pass
+  pub covered_by_names : ((n : ℕ) → passing n ≡ true → is_watched_table named_watch (slice_get world.rows n) ≡ true) → (f : Form)
+      → list_all (is_one_of passing named) (form_uses f) ≡ true → is_covered world named_watch f ≡ true
   covered_by_names tables f = ind-Form Covers (λ x y e. subst (λ (d : Form-F Form). Covers (roll-Form d)) e (rolled_own tables y)) f
 
 -- the watch of a form covers it
 pub covered_by_own : {R : Type 0} (world : World R) (seen : R → Bool) (f : Form)
     → ((n : ℕ) → is_watched_table (watch_of seen f) (slice_get world.rows n) ≡ true)
     → is_covered world (watch_of seen f) f ≡ true
-covered_by_own world seen f tables = covered_by_names world seen (form_uses f) tables f (all_own (form_uses f))
+covered_by_own world seen f tables = covered_by_names world seen (form_uses f) any_table (λ n any. tables n) f (all_own (form_uses f))
+
+-- and whatever rows pass, it covers each form whose host predicates are named and that names no table
+pub covered_without_tables : {R : Type 0} (world : World R) (seen : R → Bool) (named : List Mention) (f : Form)
+    → list_all (is_one_of no_table named) (form_uses f) ≡ true
+    → is_covered world (record { row = seen; host = is_mentioned named }) f ≡ true
+covered_without_tables world seen named f = covered_by_names world seen named no_table (λ n any. absurd (true≢false (sym any))) f

@@ -11,7 +11,7 @@ use Rattle.lq_plan.specs.Prepared as prepared
 use Rattle.lq_plan.specs.Watching.{facts_of, is_covered_pipe}
 use Rattle.lq_plan.specs.declared.slots.Slots.TheVariants as slots
 use Rattle.lq_plan.proofs.SlotLaws.{no_values}
-use Rattle.lq_pipe.specs.Handing.{HandsUpTo}
+use Rattle.lq_pipe.specs.Handing.{HandsAtMost, HandsUpTo}
 use Rattle.lq_pipe.specs.Steps.{Steps}
 use Rattle.lq_pipe.proofs.pulls.next_item.Goals as goal
 
@@ -45,3 +45,10 @@ returns-clause-hands g c =
     c.new-sources.ensures
     (subst (λ (vs : List (Value _)). IfOk c.next.result (λ step. HandsUpTo (plans.world c.new-sources.result) vs c.args.pipe.now (rows_to_come c.args.base.now) (handed_out c.args.base.now) step (rows_to_come c.next.new.base) (handed_out c.next.new.base)))
     no_values c.next.ensures.hands)
+
+pub returns-clause-within : goal.returns-clause-within
+returns-clause-within g c =
+    subst (λ (w : World _). HandsAtMost w [] c.args.pipe.now (rows_to_come c.args.base.now) (handed_out c.args.base.now) (rows_to_come c.next.new.base) (handed_out c.next.new.base))
+    c.new-sources.ensures
+    (subst (λ (vs : List (Value _)). HandsAtMost (plans.world c.new-sources.result) vs c.args.pipe.now (rows_to_come c.args.base.now) (handed_out c.args.base.now) (rows_to_come c.next.new.base) (handed_out c.next.new.base))
+    no_values c.next.ensures.within)

@@ -26,16 +26,16 @@ use Rattle.lq_plan.proofs.PullLaws.{left_opened, passes_stage, stage_items, tabl
 use Rattle.lq_plan.proofs.WatchLaws.{slots_pass, source_covered, stage_covered}
 use Rattle.lq_tree.proofs.CoveredLaws.{covered_all_body, covered_all_source, covered_and_left, covered_and_right, covered_binary_left, covered_binary_right, covered_coalesce_left, covered_coalesce_right, covered_column, covered_conditional_condition, covered_conditional_first, covered_conditional_second, covered_first, covered_given_argument, covered_given_source, covered_group_by_element, covered_group_by_key, covered_group_by_source, covered_host, covered_is_null, covered_join_parts, covered_join_source, covered_key, covered_member, covered_or_left, covered_or_right, covered_order_keys, covered_order_source, covered_pair_first, covered_pair_second, covered_record, covered_second, covered_select_body, covered_select_many_inner, covered_select_many_result, covered_select_many_source, covered_select_source, covered_sequence, covered_simple, covered_unary, covered_where_body, covered_where_source, host_passes, join_inner, join_inner_key, join_outer_key, join_result}
 use Rattle.lq_plan.specs.Handing.{HandsOut, handed_out, rows_to_come}
-use Rattle.lq_pipe.proofs.HandingLemmas.{hands_end, hands_fault, hands_item, passes_dropped, passes_none}
+use Rattle.lq_pipe.proofs.HandingLemmas.{at_most, at_most_end, hands_end, hands_fault, hands_item, passes_dropped, passes_none}
 use Rattle.lq_pipe.specs.Items.{item_expansion, item_join, key_and_element}
 use Rattle.lq_pipe.specs.Runs.{world}
 use Rattle.lq_pipe.specs.Steps.{Steps}
 use Rattle.lq_pipe.proofs.AnswerLemmas.{all_answer, given_answer, members_goes, record_ended, record_stopped, select_answer, where_answer}
-use Rattle.lq_pipe.proofs.CountLemmas.{all_begins, contains_begins, contains_on, given_read, simple_read, tally_begins, tally_on}
+use Rattle.lq_pipe.proofs.CountLaws.{all_begins, contains_begins, contains_on, given_read, simple_read, tally_begins, tally_on}
 use Rattle.lq_pipe.proofs.ItemLemmas.{expansion_is, group_by_answer, join_answer, join_stops, joined_met, matched_is, select_many_answer}
 use Rattle.lq_pipe.proofs.KeyLemmas.{all_goes, all_stops, counted_answer, key_answer, order_by_done, order_by_stops}
 use Rattle.lq_pipe.proofs.LogLemmas.{Covers, above_source, above_stage, all_on, all_there, asked, covered_as, covers_pipe, items_read, matched_pass, next_passes, opened, pairs_match, passed_item, source_of, stage_as, stage_over, went_on}
-use Rattle.lq_pipe.proofs.PullLemmas.{begins_read, comes, comes_begins, comes_on, next_dropped, next_ended, next_fault, next_item, read_ended, read_on, selects_begin, selects_on}
+use Rattle.lq_pipe.proofs.PullLaws.{begins_read, comes, comes_begins, comes_on, next_dropped, next_ended, next_fault, next_item, read_ended, read_on, selects_begin, selects_on}
 use Rattle.lq_pipe.proofs.StreamLemmas.{select_goes, select_stops}
 use Rattle.lq_value.specs.declared.value.End.TheVariants as end
 use Rattle.lq_value.specs.declared.value.Value.TheVariants as value
@@ -444,7 +444,7 @@ pub base_of-returns-in-Table-clause-from : goal.base_of-returns-in-Table-clause-
 base_of-returns-in-Table-clause-from g t c =
     λ w h s.
     stream_passes (world c.args.self.now) w c.args.form.now (values_in c.args.slots.now) _
-    (subst (λ f. base_stream c.rows_of.result ≡ items_meant (world c.args.self.now) f c.args.slots.now) (sym c.in-Table.is) (table_opened (world c.args.self.now) (values_in c.args.slots.now) _ _ c.rows_of.ensures)) h s
+    (subst (λ f. base_stream c.rows_of.result ≡ items_meant (world c.args.self.now) f c.args.slots.now) (sym c.in-Table.is) (table_opened (world c.args.self.now) (values_in c.args.slots.now) _ _ c.rows_of.ensures.items)) h s
 
 pub base_of-returns-in_ok-items-in_default-clause-from : goal.base_of-returns-in_ok-items-in_default-clause-from
 base_of-returns-in_ok-items-in_default-clause-from g t c =
@@ -585,12 +585,45 @@ next-returns-in-Err-clause-hands g t c =
     hands_end g.R.TableRow.table_of g.R.RowRef.shown (world c.args.self.now) (values_in c.args.slots.now) c.args.pipe.now c.requires (rows_to_come c.args.base.now) (handed_out c.args.base.now) (rows_to_come c.loop-pulled.base) (handed_out c.loop-pulled.base) (rows_to_come c.pull.new.self) (handed_out c.pull.new.self) c.loop-pulled.invariant.passes c.in-Err.end
     (subst (λ r. HandsOut g.R.TableRow.table_of g.R.RowRef.shown c.args.pipe.now.plan (rows_to_come c.loop-pulled.base) (handed_out c.loop-pulled.base) r (rows_to_come c.pull.new.self) (handed_out c.pull.new.self)) c.in-Err.is c.pull.ensures.hands)
 
+pub next-returns-in_err-item-in-Ok-clause-within : goal.next-returns-in_err-item-in-Ok-clause-within
+next-returns-in_err-item-in-Ok-clause-within g t c =
+    at_most g.R.TableRow.table_of g.R.RowRef.shown (world c.args.self.now) (values_in c.args.slots.now) c.args.pipe.now c.requires (rows_to_come c.args.base.now) (handed_out c.args.base.now) (rows_to_come c.loop-pulled.base) (handed_out c.loop-pulled.base) (rows_to_come c.pull.new.self) (handed_out c.pull.new.self) c.loop-pulled.invariant.passes c.in-Ok.pulled
+    (subst (λ r. HandsOut g.R.TableRow.table_of g.R.RowRef.shown c.args.pipe.now.plan (rows_to_come c.loop-pulled.base) (handed_out c.loop-pulled.base) r (rows_to_come c.pull.new.self) (handed_out c.pull.new.self)) c.in-Ok.is c.pull.ensures.hands)
+
+pub next-returns-in_err-item-in-Ok-clause-alone : goal.next-returns-in_err-item-in-Ok-clause-alone
+next-returns-in_err-item-in-Ok-clause-alone g t c = λ none. c.pull.ensures.alone (c.loop-pulled.invariant.alone none)
+
+pub next-returns-in-Item-clause-within : goal.next-returns-in-Item-clause-within
+next-returns-in-Item-clause-within g t c =
+    at_most g.R.TableRow.table_of g.R.RowRef.shown (world c.args.self.now) (values_in c.args.slots.now) c.args.pipe.now c.requires (rows_to_come c.args.base.now) (handed_out c.args.base.now) (rows_to_come c.loop-pulled.base) (handed_out c.loop-pulled.base) (rows_to_come c.pull.new.self) (handed_out c.pull.new.self) c.loop-pulled.invariant.passes c.in-Ok.pulled
+    (subst (λ r. HandsOut g.R.TableRow.table_of g.R.RowRef.shown c.args.pipe.now.plan (rows_to_come c.loop-pulled.base) (handed_out c.loop-pulled.base) r (rows_to_come c.pull.new.self) (handed_out c.pull.new.self)) c.in-Ok.is c.pull.ensures.hands)
+
+pub next-returns-in-Item-clause-alone : goal.next-returns-in-Item-clause-alone
+next-returns-in-Item-clause-alone g t c = λ none. c.pull.ensures.alone (c.loop-pulled.invariant.alone none)
+
+pub next-returns-in-Fault-clause-within : goal.next-returns-in-Fault-clause-within
+next-returns-in-Fault-clause-within g t c =
+    at_most g.R.TableRow.table_of g.R.RowRef.shown (world c.args.self.now) (values_in c.args.slots.now) c.args.pipe.now c.requires (rows_to_come c.args.base.now) (handed_out c.args.base.now) (rows_to_come c.loop-pulled.base) (handed_out c.loop-pulled.base) (rows_to_come c.pull.new.self) (handed_out c.pull.new.self) c.loop-pulled.invariant.passes c.in-Ok.pulled
+    (subst (λ r. HandsOut g.R.TableRow.table_of g.R.RowRef.shown c.args.pipe.now.plan (rows_to_come c.loop-pulled.base) (handed_out c.loop-pulled.base) r (rows_to_come c.pull.new.self) (handed_out c.pull.new.self)) c.in-Ok.is c.pull.ensures.hands)
+
+pub next-returns-in-Fault-clause-alone : goal.next-returns-in-Fault-clause-alone
+next-returns-in-Fault-clause-alone g t c = λ none. c.pull.ensures.alone (c.loop-pulled.invariant.alone none)
+
+pub next-returns-in-Err-clause-within : goal.next-returns-in-Err-clause-within
+next-returns-in-Err-clause-within g t c =
+    at_most_end g.R.TableRow.table_of g.R.RowRef.shown (world c.args.self.now) (values_in c.args.slots.now) c.args.pipe.now c.requires (rows_to_come c.args.base.now) (handed_out c.args.base.now) (rows_to_come c.loop-pulled.base) (handed_out c.loop-pulled.base) (rows_to_come c.pull.new.self) (handed_out c.pull.new.self) c.loop-pulled.invariant.passes c.in-Err.end
+    (subst (λ r. HandsOut g.R.TableRow.table_of g.R.RowRef.shown c.args.pipe.now.plan (rows_to_come c.loop-pulled.base) (handed_out c.loop-pulled.base) r (rows_to_come c.pull.new.self) (handed_out c.pull.new.self)) c.in-Err.is c.pull.ensures.hands)
+
+pub next-returns-in-Err-clause-alone : goal.next-returns-in-Err-clause-alone
+next-returns-in-Err-clause-alone g t c = λ none. c.pull.ensures.alone (c.loop-pulled.invariant.alone none)
+
 pub next-loop-pulled-init : goal.next-loop-pulled-init
 next-loop-pulled-init g t c =
     record {
       meant = refl;
       pulled = pulled_none (world c.args.self.now) (facts c.args.self.now.sources) (λ w. is_covered_pipe (world c.args.self.now) w (values_in c.args.slots.now) c.args.pipe.now) _ _;
       passes = passes_none g.R.TableRow.table_of g.R.RowRef.shown (world c.args.self.now) (values_in c.args.slots.now) c.args.pipe.now (rows_to_come c.args.base.now) (handed_out c.args.base.now);
+      alone = λ none. none;
     }
 
 pub next-loop-pulled-preserved : goal.next-loop-pulled-preserved
@@ -606,6 +639,7 @@ next-loop-pulled-preserved g t c =
       passes = passes_dropped g.R.TableRow.table_of g.R.RowRef.shown (world c.args.self.now) (values_in c.args.slots.now) c.args.pipe.now c.requires (rows_to_come c.args.base.now) (handed_out c.args.base.now) (rows_to_come c.loop-pulled.base) (handed_out c.loop-pulled.base) (rows_to_come c.pull.new.self) (handed_out c.pull.new.self) c.loop-pulled.invariant.passes
           c.in-Ok.pulled (subst (λ r. HandsOut g.R.TableRow.table_of g.R.RowRef.shown c.args.pipe.now.plan (rows_to_come c.loop-pulled.base) (handed_out c.loop-pulled.base) r (rows_to_come c.pull.new.self) (handed_out c.pull.new.self)) c.in-Ok.is c.pull.ensures.hands)
           (subst (λ o. outcome_stream o ≡ comes g.R.TableRow.table_of g.R.RowRef.shown (world c.args.self.now) (values_in c.args.slots.now) c.args.pipe.now (pulled_value c.in-Ok.pulled)) c.in-Dropped.is c.in_ok-item-in-Ok.ensures.meant);
+      alone = λ none. c.pull.ensures.alone (c.loop-pulled.invariant.alone none);
     }
 
 pub read-loop-less-init : goal.read-loop-less-init

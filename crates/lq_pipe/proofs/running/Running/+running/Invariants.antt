@@ -17,7 +17,7 @@ use Rattle.lq_plan.specs.Arrangements.{column_of, key_at}
 use Rattle.lq_plan.specs.Counts.{read_first}
 use Rattle.lq_plan.specs.Lists.{field_means}
 use Rattle.lq_plan.specs.Meanings.{holds_of, items_meant, value_of_item}
-use Rattle.lq_plan.specs.Handing.{handed_out, rows_to_come}
+use Rattle.lq_plan.specs.Handing.{StaysOfRows, handed_out, rows_to_come}
 use Rattle.lq_plan.specs.Pipes.{all_items, items_left}
 use Rattle.lq_plan.specs.PlannedRows.{kept_stream}
 use Rattle.lq_plan.specs.Slots.{values_in}
@@ -26,7 +26,7 @@ use Rattle.lq_pipe.specs.Handing.{Passes}
 use Rattle.lq_pipe.specs.Items.{item_expansion, item_join, keys_and_elements, stream_expansion, stream_join}
 use Rattle.lq_pipe.specs.Runs.{Grown, HasTaken, covers, world}
 use Rattle.lq_pipe.proofs.LogLemmas.{Covers, Keeps}
-use Rattle.lq_pipe.proofs.PullLemmas.{Comes}
+use Rattle.lq_pipe.proofs.PullLaws.{Comes}
 use Rattle.lq_pipe.proofs.Sizes.{body_size, pipe_size, stage_size}
 use Rattle.lq_pipe.proofs.StreamLemmas.{Goes}
 use Rattle.lq_pipe.proofs.running.Running.+running.Given as goal
@@ -238,6 +238,7 @@ invariant-next-loop-pulled g l =
       meant : items_left (world l.fn.self) (values_in l.fn.slots) l.fn.pipe l.base ≡ items_left (world l.fn.self) (values_in l.fn.slots) l.fn.pipe l.fn.base;
       pulled : HasTaken l.fn.self l.fn.slots l.fn.pipe l.fn.base l.fn.log l.base l.log;
       passes : Passes (world l.fn.self) (values_in l.fn.slots) l.fn.pipe (rows_to_come l.fn.base) (handed_out l.fn.base) (rows_to_come l.base) (handed_out l.base);
+      alone : StaysOfRows l.fn.base l.base;
     }
 
 abbrev pub decreases-next-loop-pulled : goal.decreases-next-loop-pulled

@@ -1,0 +1,193 @@
+-- What methods answer of the items that they read, and of tallies.
+use Rattle.std.proofs.Common.{◌≡◌, ◌∷◌, ◌+◌, List, [], ℕ, zero, suc, ℤ, pos, negsuc, if◌then◌else◌, Bool, true, false, Option, Some, None, Result, Ok, Err, ap, ◌∙◌, sym, refl, subst, arith}
+use Rattle.lq_value.specs.declared.scalar.Scalar.{Scalar}
+use Rattle.lq_value.specs.declared.scalar.Scalar.TheVariants as scalar
+use Rattle.lq_value.specs.declared.ty.Ty.{Ty}
+use Rattle.lq_value.specs.declared.value.End.{End}
+use Rattle.lq_value.specs.declared.value.Fault.{Fault}
+use Rattle.lq_value.specs.declared.value.Value.{Value, out-Value}
+use Rattle.lq_value.specs.declared.value.Value.TheOpen.{Value-F}
+use Rattle.lq_language.specs.Enumerable.{all, as_count, contains, element_at, first, in_front, item_behind, single, take_first}
+use Rattle.lq_language.specs.Worlds.{World}
+use Rattle.lq_language.specs.OperandMeaning.{as_value, scalar_of}
+use Rattle.lq_language.specs.Operations.{on_ok}
+use Rattle.lq_language.specs.Stream.{Stream}
+use Rattle.lq_language.specs.Meaning.{as_sequence, given_meaning, number_of, on_number, simple_meaning}
+use Rattle.lq_language.specs.declared.methods.Given.{Given}
+use Rattle.lq_language.specs.declared.methods.Given.TheVariants as given
+use Rattle.lq_language.specs.declared.methods.Simple.{Simple}
+use Rattle.lq_language.specs.declared.methods.Simple.TheVariants as simple
+use Rattle.lq_operators.specs.Tallies.{begins, goes_on, tallied, tally_result}
+use Rattle.lq_operators.specs.declared.numbers.Tally.{Tally}
+use Rattle.lq_operators.proofs.NumberLaws.{begun, told_is}
+use Rattle.lq_plan.specs.Counts.{given_limit, value_limit, simple_limit, number_limit, read_first}
+use Rattle.lq_plan.proofs.PullLaws.{left_opened}
+use Rattle.lq_pipe.proofs.PullLaws.{fewer}
+
+some_is : {A : Type 0} {x y : A} → Some x ≡ Some y → x ≡ y
+some_is {A} {x} is = ap (λ (o : Option A). get_or_else o) is where
+  get_or_else : Option A → A
+  get_or_else None = x
+  get_or_else (Some z) = z
+
+none_some : {A : Type 0} {x : A} → None ≡ Some x → ⊥
+none_some {A} {x} is = subst (λ (o : Option A). is_none o) is tt where
+  is_none : Option A → Type 0
+  is_none None = Unit {0}
+  is_none (Some y) = ⊥
+
+module _ {R : Type 0} where
+  -- one item settles `First`, and two settle `Single`
+  of_one : (none : Result (Value R) Fault) (xs : List (Value R)) (e : End) → first none (take_first 1 xs e).0 (take_first 1 xs e).1 ≡ first none xs e
+  of_one none [] e = refl
+  of_one none (x ∷ xs) e = refl
+
+  of_two : (none : Result (Value R) Fault) (xs : List (Value R)) (e : End) → single none (take_first 2 xs e).0 (take_first 2 xs e).1 ≡ single none xs e
+  of_two none [] e = refl
+  of_two none (x ∷ []) e = refl
+  of_two none (x ∷ y ∷ xs) e = refl
+
+  of_any : (t : Ty) (xs : List (Value R)) (e : End) → simple_meaning simple.Any t (take_first 1 xs e) ≡ simple_meaning simple.Any t (xs, e)
+  of_any t [] e = refl
+  of_any t (x ∷ xs) e = refl
+
+  simple_limit_is : (method : Simple) (n : ℕ) (t : Ty) (s : Stream (Value R)) → simple_limit method ≡ Some n → simple_meaning method t (take_first n s.0 s.1) ≡ simple_meaning method t s
+  simple_limit_is simple.Any n t s is = ap (λ k. simple_meaning simple.Any t (take_first k s.0 s.1)) (sym (some_is is)) ∙ of_any t s.0 s.1
+  simple_limit_is simple.First n t s is = ap (λ k. simple_meaning simple.First t (take_first k s.0 s.1)) (sym (some_is is)) ∙ of_one _ s.0 s.1
+  simple_limit_is simple.FirstOrDefault n t s is = ap (λ k. simple_meaning simple.FirstOrDefault t (take_first k s.0 s.1)) (sym (some_is is)) ∙ of_one _ s.0 s.1
+  simple_limit_is simple.Single n t s is = ap (λ k. simple_meaning simple.Single t (take_first k s.0 s.1)) (sym (some_is is)) ∙ of_two _ s.0 s.1
+  simple_limit_is simple.SingleOrDefault n t s is = ap (λ k. simple_meaning simple.SingleOrDefault t (take_first k s.0 s.1)) (sym (some_is is)) ∙ of_two _ s.0 s.1
+  simple_limit_is simple.Distinct n t s is = absurd (none_some is)
+  simple_limit_is simple.Reverse n t s is = absurd (none_some is)
+  simple_limit_is simple.DefaultIfEmpty n t s is = absurd (none_some is)
+  simple_limit_is simple.Count n t s is = absurd (none_some is)
+  simple_limit_is simple.Last n t s is = absurd (none_some is)
+  simple_limit_is simple.Sum n t s is = absurd (none_some is)
+  simple_limit_is simple.Min n t s is = absurd (none_some is)
+  simple_limit_is simple.Max n t s is = absurd (none_some is)
+
+  simple_by : (method : Simple) (l : Option ℕ) (t : Ty) (items s : Stream (Value R)) → simple_limit method ≡ l → items ≡ read_first l s
+      → simple_meaning method t items ≡ simple_meaning method t s
+  simple_by method (Some n) t items s is read = ap (simple_meaning method t) read ∙ simple_limit_is method n t s is
+  simple_by method None t items s is read = ap (simple_meaning method t) read
+
+  pub simple_read : (method : Simple) (l : Option ℕ) (t : Ty) (items s : Stream (Value R)) → l ≡ simple_limit method → items ≡ read_first l s
+      → simple_meaning method t items ≡ simple_meaning method t s
+  simple_read method l t items s is read = simple_by method l t items s (sym is) read
+
+  -- ---- tallies
+
+  pub tally_answers : (method : Simple) (k : Tally) → begins method ≡ Some k → (t : Ty) (s : Stream (Value R)) → simple_meaning method t s ≡ as_value (tallied t k s)
+  tally_answers method k is t s = begun method k is t s
+
+  pub tally_begins : (t : Ty) (k : Tally) (left all : Stream (Value R)) → left ≡ all → tallied t k left ≡ tallied t k all
+  tally_begins t k left all is = ap (tallied t k) is
+
+  pub tally_on : (t : Ty) (k next : Tally) (old new : Stream (Value R)) (x : Value R) (all : Result Scalar Fault) → old ≡ in_front x new
+      → ((u : Ty) (s : Stream (Value R)) → tallied u k (in_front x s) ≡ goes_on u (Ok next) s) → tallied t k old ≡ all → tallied t next new ≡ all
+  tally_on t k next old new x all is steps goes = sym (steps t new) ∙ ap (tallied t k) (sym is) ∙ goes
+
+  pub tally_stopped : (t : Ty) (k : Tally) (f : Fault) (old new : Stream (Value R)) (x : Value R) (all : Result Scalar Fault) → old ≡ in_front x new
+      → ((u : Ty) (s : Stream (Value R)) → tallied u k (in_front x s) ≡ goes_on u (Err f) s) → tallied t k old ≡ all → all ≡ Err f
+  tally_stopped t k f old new x all is steps goes = sym goes ∙ ap (tallied t k) is ∙ steps t new
+
+  pub tally_ended : (t : Ty) (k : Tally) (old : Stream (Value R)) (e : End) (all : Result Scalar Fault) → old ≡ ([], e) → tallied t k old ≡ all → tally_result t k e ≡ all
+  tally_ended t k old e all is goes = told_is R t k e ∙ ap (tallied t k) (sym is) ∙ goes
+
+module _ {R : Type 0} (world : World R) where
+  behind : (n : ℕ) (xs : List (Value R)) (e : End) → item_behind n (take_first (n + 1) xs e).0 (take_first (n + 1) xs e).1 ≡ item_behind n xs e
+  behind n xs e =
+      let same : n + 1 ≡ suc n = omega arith in
+      ap (λ k. item_behind n (take_first k xs e).0 (take_first k xs e).1) same ∙ at n xs
+    where
+      at : (m : ℕ) (ys : List (Value R)) → item_behind m (take_first (suc m) ys e).0 (take_first (suc m) ys e).1 ≡ item_behind m ys e
+      at m [] = refl
+      at zero (y ∷ ys) = refl
+      at (suc m) (y ∷ ys) = at m ys
+
+  taken_again : (n : ℕ) (xs : List (Value R)) (e : End) → take_first n (take_first n xs e).0 (take_first n xs e).1 ≡ take_first n xs e
+  taken_again zero xs e = refl
+  taken_again (suc n) [] e = refl
+  taken_again (suc n) (x ∷ xs) e = ap (in_front x) (taken_again n xs e)
+
+  of_number : (n : ℤ) (v : Value R) (f : ℤ → Result (Value R) Fault) → out-Value R v ≡ Value-F.Scalar (scalar.Int n) → on_number world (Ok v) f ≡ f n
+  of_number n v f is = ap (λ (layer : Value-F R (Value R)). on_ok (on_ok (scalar_of world layer) (number_of world)) f) is
+
+  number_limit_is : (method : Given) (m : ℤ) (n : ℕ) (v : Value R) (s : Stream (Value R)) → out-Value R v ≡ Value-F.Scalar (scalar.Int m) → number_limit method m ≡ Some n
+      → given_meaning world method (Ok v) (take_first n s.0 s.1) ≡ given_meaning world method (Ok v) s
+  number_limit_is given.Take m n v s layer is =
+      ap (λ k. given_meaning world given.Take (Ok v) (take_first k s.0 s.1)) (sym (some_is is))
+      ∙ of_number m v (λ k. as_sequence (take_first (as_count k) (take_first (as_count m) s.0 s.1).0 (take_first (as_count m) s.0 s.1).1)) layer
+      ∙ ap as_sequence (taken_again (as_count m) s.0 s.1)
+      ∙ sym (of_number m v (λ k. as_sequence (take_first (as_count k) s.0 s.1)) layer)
+  number_limit_is given.ElementAt (pos m) n v s layer is =
+      ap (λ k. given_meaning world given.ElementAt (Ok v) (take_first k s.0 s.1)) (sym (some_is is))
+      ∙ of_number (pos m) v (λ k. element_at k (take_first (m + 1) s.0 s.1).0 (take_first (m + 1) s.0 s.1).1) layer
+      ∙ behind m s.0 s.1
+      ∙ sym (of_number (pos m) v (λ k. element_at k s.0 s.1) layer)
+  number_limit_is given.ElementAt (negsuc m) n v s layer is =
+      of_number (negsuc m) v (λ k. element_at k (take_first n s.0 s.1).0 (take_first n s.0 s.1).1) layer
+      ∙ sym (of_number (negsuc m) v (λ k. element_at k s.0 s.1) layer)
+  number_limit_is given.Concat m n v s layer is = absurd (none_some is)
+  number_limit_is given.Union m n v s layer is = absurd (none_some is)
+  number_limit_is given.Intersect m n v s layer is = absurd (none_some is)
+  number_limit_is given.Except m n v s layer is = absurd (none_some is)
+  number_limit_is given.Skip m n v s layer is = absurd (none_some is)
+  number_limit_is given.Contains m n v s layer is = absurd (none_some is)
+
+  by_layer : (method : Given) (n : ℕ) (v : Value R) (s : Stream (Value R)) (layer : Value-F R (Value R)) → out-Value R v ≡ layer → value_limit method layer ≡ Some n
+      → given_meaning world method (Ok v) (take_first n s.0 s.1) ≡ given_meaning world method (Ok v) s
+  by_layer method n v s (Value-F.Scalar (scalar.Int m)) is needs = number_limit_is method m n v s is needs
+  by_layer method n v s (Value-F.Scalar scalar.Null) is needs = absurd (none_some needs)
+  by_layer method n v s (Value-F.Scalar (scalar.Bool b)) is needs = absurd (none_some needs)
+  by_layer method n v s (Value-F.Scalar (scalar.Text t)) is needs = absurd (none_some needs)
+  by_layer method n v s (Value-F.Row r) is needs = absurd (none_some needs)
+  by_layer method n v s (Value-F.Rec ms) is needs = absurd (none_some needs)
+  by_layer method n v s (Value-F.Group k xs) is needs = absurd (none_some needs)
+  by_layer method n v s (Value-F.Seq xs e) is needs = absurd (none_some needs)
+
+  given_limit_is : (method : Given) (argument : Result (Value R) Fault) (n : ℕ) (s : Stream (Value R)) → given_limit method argument ≡ Some n
+      → given_meaning world method argument (take_first n s.0 s.1) ≡ given_meaning world method argument s
+  given_limit_is method (Ok v) n s is = by_layer method n v s (out-Value R v) refl is
+  given_limit_is given.Skip (Err f) n s is = refl
+  given_limit_is given.Take (Err f) n s is = refl
+  given_limit_is given.ElementAt (Err f) n s is = refl
+  given_limit_is given.Contains (Err f) n s is = refl
+  given_limit_is given.Concat (Err f) n s is = absurd (none_some is)
+  given_limit_is given.Union (Err f) n s is = absurd (none_some is)
+  given_limit_is given.Intersect (Err f) n s is = absurd (none_some is)
+  given_limit_is given.Except (Err f) n s is = absurd (none_some is)
+
+  given_by : (method : Given) (argument : Result (Value R) Fault) (l : Option ℕ) (items s : Stream (Value R)) → given_limit method argument ≡ l → items ≡ read_first l s
+      → given_meaning world method argument items ≡ given_meaning world method argument s
+  given_by method argument (Some n) items s is read = ap (given_meaning world method argument) read ∙ given_limit_is method argument n s is
+  given_by method argument None items s is read = ap (given_meaning world method argument) read
+
+  pub given_read : (method : Given) (argument : Result (Value R) Fault) (l : Option ℕ) (items s : Stream (Value R)) → l ≡ given_limit method argument → items ≡ read_first l s
+      → given_meaning world method argument items ≡ given_meaning world method argument s
+  given_read method argument l items s is read = given_by method argument l items s (sym is) read
+
+module _ {A : Type 0} (same : A → A → Bool) (v : A) where
+  -- an item that isn't the value is passed by, and the first that is answers
+  pub contains_on : (old new : Stream A) (x : A) (all : Result Bool Fault) → old ≡ in_front x new → same v x ≡ false
+      → contains same v old.0 old.1 ≡ all → contains same v new.0 new.1 ≡ all
+  contains_on old new x all is other goes =
+      sym (ap (λ (s : Stream A). contains same v s.0 s.1) is ∙ ap (λ (b : Bool). if b then Ok true else contains same v new.0 new.1) other) ∙ goes
+
+  pub contains_found : (old new : Stream A) (x : A) (all : Result Bool Fault) → old ≡ in_front x new → same v x ≡ true
+      → contains same v old.0 old.1 ≡ all → all ≡ Ok true
+  contains_found old new x all is found goes =
+      sym goes ∙ ap (λ (s : Stream A). contains same v s.0 s.1) is ∙ ap (λ (b : Bool). if b then Ok true else contains same v new.0 new.1) found
+
+  pub contains_begins : (left all : Stream A) → left ≡ all → contains same v left.0 left.1 ≡ contains same v all.0 all.1
+  contains_begins left all is = ap (λ (s : Stream A). contains same v s.0 s.1) is
+
+module _ {A : Type 0} (holds : A → Result Bool Fault) where
+  pub all_begins : (left whole : Stream A) → left ≡ whole → all holds left.0 left.1 ≡ all holds whole.0 whole.1
+  all_begins left whole is = ap (λ (s : Stream A). all holds s.0 s.1) is
+
+pub ruleset contains_steps = (left_opened, contains_begins, contains_on, contains_found, fewer)
+
+pub ruleset all_steps = (left_opened, all_begins, fewer)
+
+pub ruleset tallies = (left_opened, tally_begins, tally_on, tally_stopped, tally_ended, fewer)

@@ -1,0 +1,13 @@
+pub mod Chains
+pub mod Contexts
+pub mod Drains
+pub mod Evaluations
+pub mod Heads
+pub mod Laziness
+pub mod Pipes
+pub mod Places
+pub mod Pulling
+pub mod Reading
+pub mod Settling
+pub mod Standings
+pub mod Truths
