@@ -1,5 +1,5 @@
-"""Loads 300,000 rows of columns of every type, beside `sqlite3`; scans them under row policies, beside no policies; and
-evaluates conditions on them."""
+"""Loads 300,000 rows of columns of every type, beside `sqlite3`; scans them under row policies, beside no policies; reads the first
+of them under these policies; and evaluates conditions on them."""
 
 import os
 import shutil
@@ -18,6 +18,8 @@ MOST_OF_OPEN = 2.2
 MOST_OF_LOADING = 1_000
 # Instructions a row, without row security.
 MOST_OF_SCAN = 700
+# Instructions of a line that reads the first row under policies, over a script without lines.
+MOST_OF_FIRST = 20_000
 HEADER = "id:int,name:string,dept:int[0..999],boss:int?,salary:int,ok:bool"
 SCANS = 4
 CONDITIONS = ("false", "e.id < 0", "e.id >= 0 && e.dept >= 0 && e.salary < 0", 'e.name.StartsWith("x")')
@@ -63,6 +65,10 @@ def write_files():
     write("one.script", "run 1;\n")
     write("one.reply", '{"value":1}\n')
     write("scan.script", SCAN * SCANS)
+    write("first.script", "run staff.First().id;\n")
+    write("first.reply", '{"value":1}\n')
+    write("none.script", "")
+    write("none.reply", "")
     items = ",".join(str(number) for number in range(1, ROWS + 1))
     write("scan.reply", ('{"items":[' + items + "]}\n") * SCANS)
 
@@ -109,6 +115,13 @@ def compare_scans(program, count, time):
         raise Failure(f"a scan under row policies took more than {MOST_OF_OPEN} times the instructions without them")
 
 
+def compare_first(program):
+    first, none = (measuring.count(program, *files(name), "guarded.toml") for name in ("first", "none"))
+    print(f"first row: {first - none:,} instructions over a script without lines, under three policies")
+    if first - none > MOST_OF_FIRST:
+        raise Failure(f"the first row took {first - none:,} instructions, at most {MOST_OF_FIRST:,}, as no other is read")
+
+
 def least_time(program, name, policy=None):
     return min(measuring.run(program, *files(name), policy)[0] for _ in range(RUNS))
 
@@ -132,4 +145,5 @@ def compare(program):
     write_files()
     count, time = compare_loading(program)
     compare_scans(program, count, time)
+    compare_first(program)
     measure_conditions(program, time)

@@ -47,7 +47,7 @@ use Rattle.lq_pipeline.proofs.TakeLemmas.{unwrapped_all, unwrapped_given, unwrap
 -- ---- fronts
 
 module _ {A : Type 0} where
-  nil_not_cons : {x : A} {xs : List A} → [] ≡ x ∷ xs → ⊥
+  pub nil_not_cons : {x : A} {xs : List A} → [] ≡ x ∷ xs → ⊥
   nil_not_cons is = subst (λ (l : List A). is_nil l) is tt where
     is_nil : List A → Type 0
     is_nil [] = Unit {0}

@@ -5,10 +5,13 @@ pub mod DrainLemmas
 pub mod FirstLemmas
 pub mod GivenLemmas
 pub mod HeadLemmas
+pub mod KindLemmas
 pub mod LazinessLaws
+pub mod OwnCallLemmas
 pub mod PipeLemmas
 pub mod PullingLemmas
 pub mod ReadingLemmas
+pub mod RunLemmas
 pub mod SettlingLaws
 pub mod StartLemmas
 pub mod StraightLaws

@@ -1,8 +1,10 @@
+pub mod Answers
 pub mod Chains
 pub mod Contexts
 pub mod Drains
 pub mod Evaluations
 pub mod Heads
+pub mod Keeping
 pub mod Laziness
 pub mod Pipes
 pub mod Places

@@ -1,4 +1,4 @@
-//! The running of guarded trees with a set of host predicates.
+//! What guarded trees are run over, and the running of one as a whole.
 ghost use Rattle.std.specs.Prelude.{◌≡◌, IfOk};
 ghost use Rattle.lq_host.specs.Hosts.{hosts_of};
 ghost use Rattle.lq_language.specs.OperandMeaning.{stream_of};
@@ -101,10 +101,8 @@ impl<'a> Ctx<'a> {
     }
 }
 
-/// The value of a tree that is guarded for select, over these tables, policies and host predicates, or its first fault (ECMA-334,
-/// expressions; .NET, `Enumerable`): each leaf of the tree means the rows of its table that the role sees. Refused where no memory was
-/// left.
-pub fn value<'a>(
+/// The value of a tree that is guarded for select, or its first fault, as one run of the tree.
+pub(crate) fn whole_value<'a>(
     alloc: Global,
     tree: &GuardedTree,
     context: &mut Ctx<'a>,
@@ -123,9 +121,8 @@ pub fn value<'a>(
     context.hosts.work(task, &mut ())
 }
 
-/// The items of a tree that is guarded for select, and how they end, as `value` finds them: a fault that is met in making them is their
-/// ending. Refused where no memory was left.
-pub fn run<'a>(
+/// The items of such a tree, and how they end, as one run of the tree.
+pub(crate) fn whole_items<'a>(
     alloc: Global,
     tree: &GuardedTree,
     context: &mut Ctx<'a>,

@@ -14,10 +14,12 @@ mod pipes;
 mod predicates;
 mod pulling;
 mod reading;
+mod runs;
 mod steps;
 
-pub use context::{Ctx, run, value};
+pub use context::Ctx;
 pub use draining::drain;
 pub use pipes::Pipe;
 pub use predicates::HostPredicates;
+pub use runs::{run, value};
 pub use steps::Step;

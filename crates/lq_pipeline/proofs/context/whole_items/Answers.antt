@@ -2,7 +2,7 @@
 use Rattle.lq_pipeline.specs.Contexts.{hosts_in, sight_in}
 use Rattle.lq_pull.specs.Views.{sight_of}
 use Rattle.lq_pipeline.proofs.ContextLemmas.{calls_guarded, guarded_enumerates}
-use Rattle.lq_pipeline.proofs.context.run.Goals as goal
+use Rattle.lq_pipeline.proofs.context.whole_items.Goals as goal
 
 pub returns-clause-meant : goal.returns-clause-meant
 returns-clause-meant g c =

@@ -2,7 +2,7 @@
 use Rattle.lq_pipeline.specs.Contexts.{hosts_in, sight_in}
 use Rattle.lq_pull.specs.Views.{sight_of}
 use Rattle.lq_pipeline.proofs.ContextLemmas.{calls_guarded, guarded_evaluates}
-use Rattle.lq_pipeline.proofs.context.value.Goals as goal
+use Rattle.lq_pipeline.proofs.context.whole_value.Goals as goal
 
 pub returns-clause-meant : goal.returns-clause-meant
 returns-clause-meant g c =
