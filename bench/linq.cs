@@ -38,6 +38,7 @@ static class Linq
     }
 
     static void Value(int number) { to.Write("{\"value\":"); to.Write(number); to.Write("}\n"); }
+    static void Value(string text) { to.Write("{\"value\":"); Text(text); to.Write("}\n"); }
 
     static void Load(string folder)
     {

@@ -2,20 +2,35 @@
 
 from collections import namedtuple
 
-# `csharp` is an argument of the method `Write` of linq.cs, and where it gives items, how one is written.
-Query = namedtuple("Query", "name lq sql csharp")
+import tables
+
+# `csharp` is an argument of the method `Write` of linq.cs, and where it gives items, how one is written. `is_record` is whether the
+# SQL gives records, which every engine writes as objects of JSON. `looked_at` is how many rows the query looks at.
+Query = namedtuple("Query", "name lq sql csharp is_record looked_at")
 
 
-def items(name, source, sql, written="Int(x)"):
-    return Query(name, source, sql, f"Items({source}, x => {written})")
+def employees():
+    return tables.ROWS
+
+
+def pairs_of_departments():
+    return tables.DEPARTMENTS * tables.DEPARTMENTS
+
+
+def all_pairs():
+    return tables.ROWS * tables.DEPARTMENTS
+
+
+def items(name, source, sql, written="Int(x)", is_record=False, looked_at=employees):
+    return Query(name, source, sql, f"Items({source}, x => {written})", is_record, looked_at)
 
 
 def value(name, source, sql):
-    return Query(name, source, sql, f"Value({source})")
+    return Query(name, source, sql, f"Value({source})", False, employees)
 
 
 QUERIES = [
-    items("serve all rows", "from e in employees select e", "select * from employees", "Row(x)"),
+    items("serve all rows", "from e in employees select e", "select * from employees", "Row(x)", is_record=True),
     items("serve one column", "from e in employees select e.id", "select id from employees"),
     items(
         "filter that keeps 1 %",
@@ -38,16 +53,24 @@ QUERIES = [
         "select name from employees where id = 123456",
         "Text(x)",
     ),
+    value("lookup by a key", "employees.First(e => e.id == 123456).name", "select name from employees where id = 123456 limit 1"),
     items(
         "join of 300,000 with 1,000",
         "from e in employees join d in depts on e.dept equals d.id select d.floor",
         "select d.floor from employees e join depts d on e.dept = d.id",
     ),
     items(
+        "product of 1,000 with 1,000 under an equality",
+        "from d in depts from c in depts where d.id == c.id select c.floor",
+        "select c.floor from depts d, depts c where d.id = c.id",
+        looked_at=pairs_of_departments,
+    ),
+    items(
         "group by with count and sum",
         "from e in employees group e by e.dept into g select new { dept = g.Key, number = g.Count(), total = g.Sum(e => e.salary) }",
         "select dept, count(*) as number, sum(salary) as total from employees group by dept",
         'Write("{\\"dept\\":" + x.dept + ",\\"number\\":" + x.number + ",\\"total\\":" + x.total + "}")',
+        is_record=True,
     ),
     items(
         "order by two keys",
@@ -77,5 +100,16 @@ QUERIES = [
         "nested query per row over 1,000 rows",
         "from d in depts select (from c in depts where c.floor == d.floor select c.id).Count()",
         "select (select count(*) from depts c where c.floor = d.floor) from depts d",
+        looked_at=pairs_of_departments,
+    ),
+]
+
+# What is run where it is asked for, since an engine that goes through all pairs takes minutes or hours.
+LARGE = [
+    items(
+        "product of 300,000 with 1,000 under an equality",
+        "from e in employees from d in depts where e.dept == d.id select d.floor",
+        "select d.floor from employees e, depts d where e.dept = d.id",
+        looked_at=all_pairs,
     ),
 ]

@@ -7,6 +7,8 @@ ROWS = 300_000
 DEPARTMENTS = 1_000
 EMPLOYEES = [("id", "int"), ("name", "string"), ("dept", "int"), ("boss", "int?"), ("salary", "int"), ("year", "int")]
 DEPTS = [("id", "int"), ("title", "string"), ("floor", "int")]
+# The columns that comparisons, joins, groups and orders use. The text test is one of a part of the name, which no index of names finds.
+INDEXED = [("employees", it) for it in ("id", "dept", "salary", "year")] + [("depts", it) for it in ("id", "floor")]
 LETTERS = "abcdefghijklmnopqrstuvwxyz"
 
 
@@ -28,10 +30,12 @@ def depts(chance):
 
 
 def write(folder):
-    """Writes employees.csv and depts.csv, with the types of the columns in their headers, and plain.csv and others without."""
+    """Writes employees.csv and depts.csv, with the types of the columns in their headers, and employees.plain and depts.plain without.
+    No row is kept: memory that this process takes would be counted as that of the commands that it starts."""
     chance = random.Random(SEED)
     for name, columns, rows in (("employees", EMPLOYEES, employees(chance)), ("depts", DEPTS, depts(chance))):
-        lines = list(rows)
-        for path, first in ((f"{folder}/{name}.csv", [header(columns)]), (f"{folder}/{name}.plain", [])):
-            with open(path, "w", encoding="utf-8") as file:
-                file.write("\n".join([*first, *lines]) + "\n")
+        with open(f"{folder}/{name}.csv", "w", encoding="utf-8") as typed, open(f"{folder}/{name}.plain", "w", encoding="utf-8") as plain:
+            typed.write(header(columns) + "\n")
+            for row in rows:
+                typed.write(row + "\n")
+                plain.write(row + "\n")
