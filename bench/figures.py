@@ -12,6 +12,9 @@ LEAST = 0.014
 # The part has to be so many times what runs without a query differ by.
 TIMES_NOISE = 4
 
+# What is less is printed as no more than this.
+LITTLE = 0.0001
+
 # What one repetition takes: the bounds are the same where it is known.
 Figure = namedtuple("Figure", "low high")
 
@@ -46,8 +49,10 @@ def part_of(bare, runs):
 def is_enough(bare, runs):
     """Whether the query's runs give a figure.
 
-    >>> is_enough([0.2, 0.3, 0.4], [1.5, 1.4, 1.3]), is_enough([0.2, 0.3, 0.4], [1.1, 1.4, 1.3]), is_enough([0.2, 0.6, 0.6], [1.7, 1.7, 1.7])
-    (True, False, False)
+    >>> is_enough([0.2, 0.3, 0.4], [1.5, 1.4, 1.3]), is_enough([0.2, 0.3, 0.4], [1.1, 1.4, 1.3])
+    (True, False)
+    >>> is_enough([0.2, 0.6, 0.6], [1.7, 1.7, 1.7])
+    False
     """
     part = part_of(bare, runs)
     return part >= ENOUGH and part >= TIMES_NOISE * noise(bare)
@@ -87,7 +92,7 @@ def digits(number):
     ('1,234', '12.3', '1.23', '0.10', '0.0012')
     """
     if number < 0.1:
-        return f"{number:.2g}" if number >= 0.0001 else "0"
+        return f"{number:.2g}" if number >= LITTLE else "0"
     if number < 1:
         return f"{number:.2f}"
     return f"{number:,.{max(0, 2 - int(math.log10(number)))}f}"
@@ -96,11 +101,13 @@ def digits(number):
 def shown(it):
     """A figure as it is printed: with `<` where only its most is known, and with `>` where only its least.
 
-    >>> shown(Figure(1.5, 1.5)), shown(Figure(0, 2)), shown(Figure(60, math.inf)), shown(Figure(0, math.inf)), shown(Figure(1, 2))
-    ('1.50', '< 2.00', '> 60.0', 'noise', '1.00 to 2.00')
+    >>> shown(Figure(1.5, 1.5)), shown(Figure(0, 2)), shown(Figure(0, 0.00001)), shown(Figure(60, math.inf)), shown(Figure(1, 2))
+    ('1.50', '< 2.00', '< 0.0001', '> 60.0', '1.00 to 2.00')
+    >>> shown(Figure(0, math.inf))
+    'noise'
     """
     if it.low == it.high:
         return digits(it.low)
     if it.high == math.inf:
         return f"> {digits(it.low)}" if it.low > 0 else "noise"
-    return f"{digits(it.low)} to {digits(it.high)}" if it.low > 0 else f"< {digits(it.high)}"
+    return f"{digits(it.low)} to {digits(it.high)}" if it.low > 0 else f"< {digits(max(it.high, LITTLE))}"
