@@ -1,5 +1,5 @@
 -- Drains give the items that are to come, and are pulls one after the other.
-use Rattle.std.proofs.Common.{◌≡◌, ◌∷◌, inl, inr, List, [], Option, Some, None, Result, Ok, Err, ap, ◌∙◌, sym, refl, subst}
+use Rattle.std.proofs.Common.{◌≡◌, ◌∷◌, ◌++◌, ◌⊎◌, inl, inr, List, [], Option, Some, None, Result, Ok, Err, ap, ◌∙◌, sym, refl, subst}
 use Rattle.std.specs.declared.alloc.AllocError.{AllocError}
 use Rattle.lq_value.specs.declared.value.End.{End}
 use Rattle.lq_value.specs.declared.value.End.TheVariants as end
@@ -12,10 +12,12 @@ use Rattle.lq_tree.specs.declared.tree.Form.{Form}
 use Rattle.lq_sink.specs.Draining.{Drains}
 use Rattle.lq_sink.specs.declared.sinks.Flow.{Flow}
 use Rattle.lq_sink.specs.declared.sinks.Flow.TheVariants as flow
-use Rattle.lq_pipeline.specs.Drains.{DrainsGive, DrainsPull, GivesItems, IsPulls}
+use Rattle.lq_pipeline.specs.Drains.{DrainsGive, DrainsHandOut, DrainsPull, GivesItems, IsPulls, items_of, step_of}
+use Rattle.lq_pipeline.specs.Laziness.{HasHandedOut, PullsAll, opened}
 use Rattle.lq_pipeline.specs.Places.{GoesFrom, GoesOn, Place}
 use Rattle.lq_pipeline.specs.Pulling.{DrainsBy, EndsWith, PullsTo, State}
 use Rattle.lq_pipeline.specs.declared.steps.Step.TheVariants as step
+use Rattle.lq_pipeline.proofs.LazinessLaws.{pulls_hand_out}
 
 module _ {K : Type 0} (takes : K → Value TableRow → Flow → K → Type 0) (world : World TableRow) (f : Form) where
   -- the end of the items to come
@@ -109,3 +111,12 @@ drains_give takes world f place old last sink rest answer at (items, drains) = d
 
 pub drains_pull : {K : Type 0} (takes : K → Value TableRow → Flow → K → Type 0) → DrainsPull takes
 drains_pull takes world f items old last sink rest answer drains = drains_pull_by takes world f items old last sink rest answer drains
+
+-- rows are handed out by these pulls alone
+pub drains_hand_out : {K : Type 0} (takes : K → Value TableRow → Flow → K → Type 0) → DrainsHandOut takes
+drains_hand_out {K} takes world f items calls last sink rest e drains =
+    by (drains_pull takes world f items (opened world f calls) last sink rest (Ok e) drains) where
+      by : PullsAll world f (items_of items) (opened world f calls) last ⊎ PullsAll world f (items_of items ++ step_of e ∷ []) (opened world f calls) last
+          → HasHandedOut world f (items_of items) calls last ⊎ HasHandedOut world f (items_of items ++ step_of e ∷ []) calls last
+      by (inl pulls) = inl (pulls_hand_out world f (items_of items) calls last pulls)
+      by (inr pulls) = inr (pulls_hand_out world f (items_of items ++ step_of e ∷ []) calls last pulls)

@@ -4,6 +4,7 @@ use Rattle.std.specs.declared.alloc.AllocError.{AllocError}
 use Rattle.lq_value.specs.declared.value.End.{End}
 use Rattle.lq_value.specs.declared.value.End.TheVariants as end
 use Rattle.lq_value.specs.declared.value.Value.{Value}
+use Rattle.lq_host.specs.declared.call.Call.{Call}
 use Rattle.lq_language.specs.Stream.{Stream}
 use Rattle.lq_language.specs.TableRows.{TableRow}
 use Rattle.lq_language.specs.Worlds.{World}
@@ -11,7 +12,7 @@ use Rattle.lq_tree.specs.declared.tree.Form.{Form}
 use Rattle.lq_sink.specs.Draining.{Drains}
 use Rattle.lq_sink.specs.declared.sinks.Flow.{Flow}
 use Rattle.lq_sink.specs.declared.sinks.Flow.TheVariants as flow
-use Rattle.lq_pipeline.specs.Laziness.{PullsAll}
+use Rattle.lq_pipeline.specs.Laziness.{HasHandedOut, PullsAll, opened}
 use Rattle.lq_pipeline.specs.Places.{Place}
 use Rattle.lq_pipeline.specs.Pulling.{DrainsBy, Drained, PullsTo, State}
 use Rattle.lq_pipeline.specs.declared.steps.Step.{Step}
@@ -57,3 +58,10 @@ abbrev pub DrainsPull : {K : Type 0} → (K → Value TableRow → Flow → K �
 DrainsPull {K} takes =
     (world : World TableRow) (f : Form) (items : List (Value TableRow)) (old last : State) (sink rest : K) (answer : Result End AllocError)
     → DrainsBy world f takes items old sink answer last rest → IsPulls world f items old answer last
+
+-- After a drain of what was opened, those rows were handed out that so many pulls need as it gave items, or one more, where it came to the end.
+abbrev pub DrainsHandOut : {K : Type 0} → (K → Value TableRow → Flow → K → Type 0) → Type 0
+DrainsHandOut {K} takes =
+    (world : World TableRow) (f : Form) (items : List (Value TableRow)) (calls : List Call) (last : State) (sink rest : K) (e : End)
+    → DrainsBy world f takes items (opened world f calls) sink (Ok e) last rest
+    → HasHandedOut world f (items_of items) calls last ⊎ HasHandedOut world f (items_of items ++ step_of e ∷ []) calls last

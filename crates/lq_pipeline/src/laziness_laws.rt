@@ -1,5 +1,5 @@
 //! Laws of how few rows a pipe hands out. Each function's contract is the law that it is named for; the functions themselves do nothing.
-ghost use Rattle.lq_pipeline.specs.Drains.{DrainsPull};
+ghost use Rattle.lq_pipeline.specs.Drains.{DrainsHandOut, DrainsPull};
 ghost use Rattle.lq_pipeline.specs.Laziness.{CallsAreOnHanded, ChainsNeed, EndsStay, NeededIsShortest, PullsHandOut, RefusalsStay};
 
 use lq_guard::VisibleRow;
@@ -41,4 +41,10 @@ pub fn refusals_stay()
 /// A drain is a pull for each item that is given, and one for the end where nothing stopped: no pull comes after a stop.
 pub fn drains_pull<'a, K: Sink<VisibleRow<'a>>>()
     ensures { DrainsPull K.takes }
+{}
+
+/// After a drain of what was opened, those rows were handed out that the items which it gave need, or these and the end: a front of all that are
+/// needed, and all of these once it came to the end. The count is theirs, and calls of host predicates were added about them alone.
+pub fn drains_hand_out<'a, K: Sink<VisibleRow<'a>>>()
+    ensures { DrainsHandOut K.takes }
 {}
