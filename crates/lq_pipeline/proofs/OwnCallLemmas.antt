@@ -1,5 +1,5 @@
 -- Whatever is pulled of a form, the log has calls more of the form's own host predicates alone, about rows of the tables.
-use Rattle.std.proofs.Common.{◌≡◌, ◌∷◌, ◌++◌, ◌&&◌, ◌||◌, inl, inr, List, [], ℕ, zero, suc, Bool, true, false, Option, Some, None, Result, Ok, Err, ap, ◌∙◌, sym, refl, subst, append_assoc, slice_get}
+use Rattle.std.proofs.Common.{◌≡◌, ◌∷◌, ◌++◌, ◌||◌, inl, inr, List, [], ℕ, zero, suc, Bool, true, false, Option, Some, None, Result, Ok, Err, ap, ◌∙◌, sym, refl, subst, append_assoc, slice_get}
 use Rattle.std.specs.Cmp.{first_so, second_so}
 use Rattle.std.specs.List.{list_all}
 use Rattle.std.specs.declared.alloc.AllocError.{AllocError}
@@ -25,9 +25,9 @@ use Rattle.lq_pull.specs.Views.{row_facts}
 use Rattle.lq_tree.specs.FormMeaning.{form_meaning}
 use Rattle.lq_pipeline.specs.Chains.{comes_at, leaf_of, rows_at}
 use Rattle.lq_pipeline.specs.Drains.{IsPulls, items_of, step_of}
-use Rattle.lq_pipeline.specs.Heads.{Needs, at_once, decides_given, fails, given_needs, given_needs_by, leaf_below, needs_layer, needs_of, needs_of_leaf, one_by_one, taken_by, unwrapped}
+use Rattle.lq_pipeline.specs.Heads.{Needs, at_once, decides_given, fails, given_needs, given_needs_by, leaf_below, needs_layer, needs_of_leaf, one_by_one, taken_by, unwrapped}
 use Rattle.lq_pipeline.specs.Laziness.{PullsAll}
-use Rattle.lq_pipeline.specs.Places.{AddsFrom, AddsIf, GoesFrom, GoesOn, OthersPass, Place, covered_layer, covers_beside, start_of}
+use Rattle.lq_pipeline.specs.Places.{AddsFrom, AddsIf, GoesFrom, OthersPass, Place, covered_layer, covers_beside, start_of}
 use Rattle.lq_pipeline.specs.Pulling.{PullsTo, State}
 use Rattle.lq_pipeline.specs.Settling.{has_at_least, needed, reaches}
 use Rattle.lq_pipeline.specs.declared.steps.Step.{Step}

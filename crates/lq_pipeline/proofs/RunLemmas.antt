@@ -1,5 +1,5 @@
 -- What is pulled of a tree is what it means: all that a drain gives of a sequence, and the first item of a value.
-use Rattle.std.proofs.Common.{◌≡◌, ◌∷◌, ◌++◌, ◌∙◌, List, [], ℕ, Bool, true, true≢false, false, Option, Some, None, Result, Ok, Err, ap, sym, refl, subst, append-nil, append_assoc}
+use Rattle.std.proofs.Common.{◌≡◌, ◌∷◌, ◌++◌, ◌∙◌, List, [], Bool, true, true≢false, false, Option, Some, None, Result, Ok, Err, ap, sym, subst, append-nil, append_assoc}
 use Rattle.std.specs.declared.alloc.AllocError.{AllocError}
 use Rattle.lq_value.specs.declared.value.End.{End}
 use Rattle.lq_value.specs.declared.value.End.TheVariants as end
