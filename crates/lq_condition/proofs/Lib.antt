@@ -1,1 +1,3 @@
 pub mod ConditionLaws
+pub mod SearchLemmas
+pub mod SizeLemmas

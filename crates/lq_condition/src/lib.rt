@@ -10,4 +10,4 @@ mod condition;
 mod verdicts;
 
 pub use condition::Condition;
-pub use verdicts::compare_numbers;
+pub use verdicts::{compare_numbers, turned_sign};

@@ -2,6 +2,8 @@ pub mod ArrangementLaws
 pub mod BlockLemmas
 pub mod ChainLemmas
 pub mod ColumnLemmas
+pub mod CountLemmas
 pub mod FirstLemmas
 pub mod NumberLemmas
+pub mod PackedLemmas
 pub mod PassLemmas

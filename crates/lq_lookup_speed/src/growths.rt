@@ -1,7 +1,7 @@
 //! Each public call over keys once, over a few of them, for runs in which one growth of memory is refused.
 ghost use Rattle.std.specs.Prelude.{[]};
 
-use lq_lookup::{Groups, Lookup, Nulls, distinct, stable_order};
+use lq_lookup::{Groups, Lookup, Nulls, distinct, order_of_columns, stable_order};
 use lq_value::{Key, List, RowRef, Scalar, Txt, Value, copy_key, key_of};
 use std::alloc::{AllocError, Global};
 
@@ -24,7 +24,7 @@ impl RowRef for NoRow {
 /// Whether each answer is the one that is expected.
 pub(crate) fn right(alloc: Global) -> Result<bool, AllocError> {
     let keys = keys(alloc)?;
-    Ok(are_right(alloc, keys.as_slice())? && right_order(alloc)?)
+    Ok(are_right(alloc, keys.as_slice())? && right_order(alloc)? && right_columns(alloc)?)
 }
 
 fn are_right(alloc: Global, keys: &[Key]) -> Result<bool, AllocError> {
@@ -148,6 +148,21 @@ fn right_order(alloc: Global) -> Result<bool, AllocError> {
 fn is_arranged(alloc: Global, lists: &[List<Scalar>]) -> Result<bool, AllocError> {
     let places = stable_order(alloc, lists, &[false, true])?;
     Ok(places.as_slice() == [3, 1, 0, 2].as_slice())
+}
+
+// By an int that ascends, and by another that descends.
+fn right_columns(alloc: Global) -> Result<bool, AllocError> {
+    let columns = [ints(alloc, &[1, 0, 1, 0])?, ints(alloc, &[7, 7, 9, 8])?];
+    let places = order_of_columns(alloc, columns.as_slice(), 4, &[false, true])?;
+    Ok(places.as_slice() == [3, 1, 2, 0].as_slice())
+}
+
+fn ints(alloc: Global, numbers: &[i32]) -> Result<List<Scalar>, AllocError> {
+    let mut list = List::new(alloc);
+    for number in numbers {
+        list.push(Scalar::Int(*number))?;
+    }
+    Ok(list)
 }
 
 fn lists(alloc: Global) -> Result<Vec<List<Scalar>>, AllocError> {

@@ -1,6 +1,9 @@
+pub mod AddedLemmas
 pub mod ArgumentLemmas
-pub mod FirstLemmas
+pub mod GroupLemmas
 pub mod ItemLemmas
+pub mod KnownLemmas
+pub mod MatchLemmas
 pub mod MoveLemmas
 pub mod NumberLaws
 pub mod Opens

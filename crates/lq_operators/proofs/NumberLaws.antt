@@ -5,11 +5,14 @@ use Rattle.std.proofs.lemmas.List.{drop_all}
 use Rattle.std.proofs.lemmas.Option.{none-some, same_Some}
 use Rattle.lq_language.proofs.IntLaws.{fit_is, is_fit}
 use Rattle.lq_value.specs.declared.scalar.Scalar.{Scalar}
+use Rattle.lq_value.specs.declared.scalar.Scalar.TheVariants as scalar
 use Rattle.lq_value.specs.declared.ty.Ty.{Ty}
 use Rattle.lq_value.specs.declared.value.End.{End}
 use Rattle.lq_value.specs.declared.value.Fault.{Fault}
 use Rattle.lq_value.specs.declared.value.Fault.TheVariants as fault
 use Rattle.lq_value.specs.declared.value.Value.{Value, out-Value}
+use Rattle.lq_value.specs.declared.value.Value.TheOpen.{Value-F}
+use Rattle.lq_value.specs.declared.value.Value.TheVariants as value
 use Rattle.lq_language.specs.Enumerable.{at_end, in_front, summed}
 use Rattle.lq_language.specs.declared.methods.Simple.{Simple}
 use Rattle.lq_language.specs.declared.methods.Simple.TheVariants as simple
@@ -18,7 +21,7 @@ use Rattle.lq_language.specs.Operations.{is_int, on_ok}
 use Rattle.lq_language.specs.Stream.{Stream}
 use Rattle.lq_language.specs.Meaning.{no_number, number_in, numbers, simple_meaning}
 use Rattle.lq_operators.specs.Numbers.{best_more, best_with, sum_more}
-use Rattle.lq_operators.specs.Tallies.{begins, goes_on, tallied, tally_result}
+use Rattle.lq_operators.specs.Tallies.{begins, goes_on, int_in, tallied, tally_result, tally_with}
 use Rattle.lq_operators.specs.declared.numbers.Extreme.{Extreme}
 use Rattle.lq_operators.specs.declared.numbers.Tally.{Tally}
 use Rattle.lq_operators.specs.declared.numbers.Tally.TheVariants as tally
@@ -61,38 +64,47 @@ told_is R t (tally.Count n) e = refl
 told_is R t (tally.Sum n) e = refl
 told_is R t (tally.Best which best) e = refl
 
+scalar_layer : (R : Type 0) (c : Scalar) → int_in c ≡ number_in {R = R} (Value-F.Scalar c)
+scalar_layer R (scalar.Int n) = refl
+scalar_layer R scalar.Null = refl
+scalar_layer R (scalar.Bool b) = refl
+scalar_layer R (scalar.Text x) = refl
+
 module _ {R : Type 0} where
   numbers_on : (x : Value R) (xs : List (Value R)) (found : Option ℤ) → found ≡ number_in (out-Value R x) → numbers (x ∷ xs) ≡ cons_option found (numbers xs)
   numbers_on x xs found is = ap (λ o. cons_option o (numbers xs)) (sym is)
 
-  pub counts_on : (n more : ℤ) (x : Value R) → Ok more ≡ sum_more n (pos 1) → (t : Ty) (s : Stream (Value R))
-      → tallied t (tally.Count n) (in_front x s) ≡ goes_on t (Ok (tally.Count more)) s
-  counts_on n more x is t s = summed_on n (pos 1) (map (λ y. pos 1) s.0) s.1 (Ok more) is
+  -- after a step, or the fault of it
+  goes_by : {A : Type 0} (t : Ty) (k : A → Tally) (found : Result A Fault) (s : Stream (Value R))
+      → goes_on t (on_ok found (λ n. Ok (k n))) s ≡ on_ok found (λ n. tallied t (k n) s)
+  goes_by t k (Ok n) s = refl
+  goes_by t k (Err f) s = refl
 
-  pub counts_past : (n : ℤ) (f : Fault) (x : Value R) → Err f ≡ sum_more n (pos 1) → (t : Ty) (s : Stream (Value R))
-      → tallied t (tally.Count n) (in_front x s) ≡ goes_on t (Err f) s
-  counts_past n f x is t s = summed_on n (pos 1) (map (λ y. pos 1) s.0) s.1 (Err f) is
+  -- an item that is this number, or none, is one step
+  numbered : (k : Tally) (x : Value R) (number : Option ℤ) → number ≡ number_in (out-Value R x) → (t : Ty) (s : Stream (Value R))
+      → tallied t k (in_front x s) ≡ goes_on t (tally_with k number) s
+  numbered (tally.Count n) x number is t s =
+      summed_on n (pos 1) (map (λ y. pos 1) s.0) s.1 (sum_more n (pos 1)) refl ∙ sym (goes_by t (λ m. tally.Count m) (sum_more n (pos 1)) s)
+  numbered (tally.Sum n) x (Some m) is t s =
+      ap (λ ns. summed n ns s.1) (numbers_on x s.0 (Some m) is) ∙ summed_on n m (numbers s.0) s.1 (sum_more n m) refl
+      ∙ sym (goes_by t (λ k. tally.Sum k) (sum_more n m) s)
+  numbered (tally.Sum n) x None is t s = ap (λ ns. summed n ns s.1) (numbers_on x s.0 None is)
+  numbered (tally.Best which best) x number is t s =
+      ap (λ ns. at_end s.1 (best_with which (no_number t) best ns)) (numbers_on x s.0 number is)
+      ∙ ap (at_end s.1) (best_by which (no_number t) best number (numbers s.0))
 
-  pub sums_on : (total more n : ℤ) (x : Value R) → Some n ≡ number_in (out-Value R x) → Ok more ≡ sum_more total n → (t : Ty) (s : Stream (Value R))
-      → tallied t (tally.Sum total) (in_front x s) ≡ goes_on t (Ok (tally.Sum more)) s
-  sums_on total more n x number is t s =
-      ap (λ ns. summed total ns s.1) (numbers_on x s.0 (Some n) number) ∙ summed_on total n (numbers s.0) s.1 (Ok more) is
+  pub item_on : (k : Tally) (x : Value R) (number : Option ℤ) (found : Result Tally Fault) → number ≡ number_in (out-Value R x) → found ≡ tally_with k number
+      → (t : Ty) (s : Stream (Value R)) → tallied t k (in_front x s) ≡ goes_on t found s
+  item_on k x number found is found_is t s = numbered k x number is t s ∙ ap (λ o. goes_on t o s) (sym found_is)
 
-  pub sums_past : (total n : ℤ) (f : Fault) (x : Value R) → Some n ≡ number_in (out-Value R x) → Err f ≡ sum_more total n → (t : Ty) (s : Stream (Value R))
-      → tallied t (tally.Sum total) (in_front x s) ≡ goes_on t (Err f) s
-  sums_past total n f x number is t s =
-      ap (λ ns. summed total ns s.1) (numbers_on x s.0 (Some n) number) ∙ summed_on total n (numbers s.0) s.1 (Err f) is
+  -- so is a scalar, and a row is no number
+  pub scalar_on : (k : Tally) (c : Scalar) (found : Result Tally Fault) → found ≡ tally_with k (int_in c)
+      → (t : Ty) (s : Stream (Value R)) → tallied t k (in_front (value.Scalar c) s) ≡ goes_on t found s
+  scalar_on k c found is = item_on k (value.Scalar c) (int_in c) found (scalar_layer R c ∙ ap number_in (sym (value.outs-Scalar c))) is
 
-  pub sums_stay : (total : ℤ) (x : Value R) → None ≡ number_in (out-Value R x) → (t : Ty) (s : Stream (Value R))
-      → tallied t (tally.Sum total) (in_front x s) ≡ goes_on t (Ok (tally.Sum total)) s
-  sums_stay total x none t s = ap (λ ns. summed total ns s.1) (numbers_on x s.0 None none)
-
-  pub bests_on : (which : Extreme) (best more found : Option ℤ) (x : Value R) → found ≡ number_in (out-Value R x) → more ≡ best_more which best found
-      → (t : Ty) (s : Stream (Value R)) → tallied t (tally.Best which best) (in_front x s) ≡ goes_on t (Ok (tally.Best which more)) s
-  bests_on which best more found x number is t s =
-      ap (λ ns. at_end s.1 (best_with which (no_number t) best ns)) (numbers_on x s.0 found number)
-      ∙ ap (at_end s.1) (best_by which (no_number t) best found (numbers s.0))
-      ∙ ap (λ b. at_end s.1 (best_with which (no_number t) b (numbers s.0))) (sym is)
+  pub row_on : (k : Tally) (r : R) (found : Result Tally Fault) → found ≡ tally_with k None
+      → (t : Ty) (s : Stream (Value R)) → tallied t k (in_front (value.Row r) s) ≡ goes_on t found s
+  row_on k r found is = item_on k (value.Row r) None found (ap number_in (sym (value.outs-Row r))) is
 
   -- one item more, and all of them
   pub tallied_next : (t : Ty) (k : Tally) (found : Result Tally Fault) (x : Value R) (items : List (Value R)) (i : ℕ) (e : End) (all : Result Scalar Fault)
@@ -124,4 +136,4 @@ module _ {R : Type 0} where
   begun simple.Single tally is t s = absurd (none-some _ is)
   begun simple.SingleOrDefault tally is t s = absurd (none-some _ is)
 
-pub ruleset steps = (counts_on, counts_past, sums_on, sums_past, sums_stay, bests_on)
+pub ruleset items_on = (item_on)

@@ -7,9 +7,8 @@ use Rattle.lq_value.specs.Keys.{key_value}
 use Rattle.lq_value.specs.Lookups.{places, places_from}
 use Rattle.lq_value.specs.SameAndOrder.{same_values}
 use Rattle.lq_value.specs.declared.value.Value.{Value}
-use Rattle.lq_language.specs.ClauseMeaning.{as_group}
-use Rattle.lq_language.specs.Stream.{elements_of, first_keys, groups_of}
-use Rattle.lq_operators.specs.Places.{group_at, passes, passes_at, picked}
+use Rattle.lq_language.specs.Stream.{elements_of}
+use Rattle.lq_operators.specs.Places.{passes, passes_at, picked}
 use Rattle.lq_operators.proofs.PlaceLemmas.{head_there, places_of_keys, same_keyed}
 
 module _ {A B : Type 0} where
@@ -84,17 +83,3 @@ module _ {R : Type 0} where
   elements_picked k ks xs ps is =
       ap (picked (same_values k) ks xs) (is ∙ places_of_keys (key_value k) 0 ks)
       ∙ picked_from (same_values k) (λ w. key_is (key_value k) (key_value w)) (same_keyed k) ks ks xs xs 0 refl refl
-
-  -- the groups of the keys as the definition has them
-  groups_each : (fs : List (Value R)) (qs : List (Value R × Value R))
-      → map (λ k. as_group (k, elements_of same_values k qs)) fs ≡ map as_group (map (λ k. (k, elements_of same_values k qs)) fs)
-  groups_each [] qs = refl
-  groups_each (f ∷ fs) qs = ap (λ (gs : List (Value R)). as_group (f, elements_of same_values f qs) ∷ gs) (groups_each fs qs)
-
-  pub groups_split : (qs : List (Value R × Value R)) (ks xs : List (Value R)) → ks ≡ map (λ q. q.0) qs → xs ≡ map (λ q. q.1) qs
-      → map (group_at ks xs) (first_keys same_values ks) ≡ map as_group (groups_of same_values qs)
-  groups_split qs ks xs ks_are xs_are =
-      (λ i. map (group_at (ks_are i) (xs_are i)) (first_keys same_values (ks_are i)))
-      ∙ ap (λ (ps : List (Value R × Value R)). map (λ k. as_group (k, elements_of same_values k ps)) (first_keys same_values (map (λ q. q.0) qs)))
-      (zip_split qs)
-      ∙ groups_each (first_keys same_values (map (λ q. q.0) qs)) qs

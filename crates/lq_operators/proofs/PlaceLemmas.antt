@@ -1,7 +1,6 @@
 -- Places of what passes a test, among the places of what has one key.
-use Rattle.std.proofs.Common.{◌≡◌, ◌∷◌, ◌+◌, ◌≤◌, ◌&&◌, ◌||◌, if◌then◌else◌, List, [], map, ℕ, zero, suc, Bool, true, false, Some, ap, ◌∙◌, sym, refl, true≢false, arith, drop, take, slice_get}
+use Rattle.std.proofs.Common.{◌≡◌, ◌∷◌, ◌||◌, if◌then◌else◌, List, [], map, ℕ, zero, suc, Bool, true, false, Some, ap, ◌∙◌, sym, refl, true≢false, drop, slice_get}
 use Rattle.std.specs.List.{list_any}
-use Rattle.std.proofs.lemmas.Bool.{le-ltb, lt-ltb}
 use Rattle.lq_value.specs.KeyTests.{key_is}
 use Rattle.lq_value.specs.Keys.{key_value}
 use Rattle.lq_value.specs.Lookups.{places, places_from}
@@ -11,7 +10,7 @@ use Rattle.lq_value.specs.declared.value.Value.{Value}
 use Rattle.lq_value.proofs.KeyLaws.{tells_equal_keys}
 use Rattle.lq_value.proofs.SamenessLaws.{tells_keys}
 use Rattle.lq_language.specs.Enumerable.{is_among}
-use Rattle.lq_operators.specs.Places.{passes, passes_at, passes_before}
+use Rattle.lq_operators.specs.Places.{passes, passes_at}
 
 module _ {A : Type 0} where
   -- what is at a place, and what comes after it
@@ -39,30 +38,6 @@ module _ {A : Type 0} where
     pub any_at_places : (xs : List A) → list_any (passes_at test xs) (places key xs) ≡ list_any test xs
     any_at_places xs = any_from xs xs 0 refl
 
-    -- those at places from n on aren't before n
-    none_from : (ys xs : List A) (n m : ℕ) → n ≤ m → list_any (passes_before test ys n) (places_from key m xs) ≡ false
-    none_from ys [] n m h = refl
-    none_from ys (x ∷ xs) n m h =
-        none_here (passes_before test ys n) m (places_from key (suc m) xs) (ap (λ (b : Bool). b && passes_at test ys m) (le-ltb m n h))
-        (none_from ys xs n (suc m) (omega arith)) (key x)
-      where
-        none_here : (f : ℕ → Bool) (m : ℕ) (ps : List ℕ) → f m ≡ false → list_any f ps ≡ false → (c : Bool) → list_any f (if c then m ∷ ps else ps) ≡ false
-        none_here f m ps e others true = λ i. e i || others i
-        none_here f m ps e others false = others
-
-    before_from : (ys xs : List A) (n m k : ℕ) → drop m ys ≡ xs → n ≡ m + k
-        → list_any (passes_before test ys n) (places_from key m xs) ≡ list_any test (take k xs)
-    before_from ys xs n m zero h e = none_from ys xs n m (omega arith)
-    before_from ys [] n m (suc k) h e = refl
-    before_from ys (x ∷ xs) n m (suc k) h e =
-        let at = head_there m ys xs x h in
-        let here : passes_before test ys n m ≡ test x = ap (λ (b : Bool). b && passes_at test ys m) (lt-ltb m n (omega arith)) ∙ ap (passes test) at.0 in
-        any_here (passes_before test ys n) m (places_from key (suc m) xs) x (list_any test (take k xs)) here
-        (before_from ys xs n (suc m) k at.1 (omega arith)) (key x) (test x) refl refl
-
-    pub any_before : (xs : List A) (n : ℕ) → list_any (passes_before test xs n) (places key xs) ≡ list_any test (take n xs)
-    any_before xs n = before_from xs xs n 0 n refl (omega arith)
-
 -- ---- values
 
 module _ {R : Type 0} where
@@ -79,9 +54,6 @@ module _ {R : Type 0} where
   pub same_keyed : (v w : Value R) → same_values v w ≡ true → key_is (key_value v) (key_value w) ≡ true
   same_keyed v w h = (tells_equal_keys (key_value v) (key_value w)).1 (ap key_value ((tells_keys R v w).0 h).1)
 
-  same_keyed_back : (v w : Value R) → same_values w v ≡ true → key_is (key_value v) (key_value w) ≡ true
-  same_keyed_back v w h = (tells_equal_keys (key_value v) (key_value w)).1 (sym (ap key_value ((tells_keys R w v).0 h).1))
-
   among_any : (v : Value R) (ws : List (Value R)) → list_any (same_values v) ws ≡ is_among same_values v ws
   among_any v [] = refl
   among_any v (w ∷ ws) = ap (λ (b : Bool). same_values v w || b) (among_any v ws)
@@ -92,10 +64,3 @@ module _ {R : Type 0} where
   among_places v ws ps is =
       ap (list_any (passes_at (same_values v) ws)) (is ∙ places_of_keys (key_value v) 0 ws)
       ∙ any_at_places (same_values v) (λ w. key_is (key_value v) (key_value w)) (same_keyed v) ws ∙ among_any v ws
-
-  -- whether one of those before a place is the same as a value
-  pub before_places : (v : Value R) (ws : List (Value R)) (n : ℕ) (ps : List ℕ) → ps ≡ places (key_is (key_value v)) (map key_value ws)
-      → list_any (passes_before (λ w. same_values w v) ws n) ps ≡ list_any (λ w. same_values w v) (take n ws)
-  before_places v ws n ps is =
-      ap (list_any (passes_before (λ w. same_values w v) ws n)) (is ∙ places_of_keys (key_value v) 0 ws)
-      ∙ any_before (λ w. same_values w v) (λ w. key_is (key_value v) (key_value w)) (same_keyed_back v) ws n

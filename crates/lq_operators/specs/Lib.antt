@@ -1,5 +1,7 @@
 pub mod Answers
 pub mod Arguments
+pub mod Firsts
+pub mod Groups
 pub mod Matching
 pub mod Moves
 pub mod Numbers

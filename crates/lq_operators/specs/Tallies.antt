@@ -1,5 +1,5 @@
 -- What comes of the items that a method which makes a number of them has still to read.
-use Rattle.std.specs.Prelude.{[], map, pos, Option, Some, None, Result, Ok, Err}
+use Rattle.std.specs.Prelude.{[], ℤ, map, pos, Option, Some, None, Result, Ok, Err}
 use Rattle.lq_value.specs.declared.scalar.Scalar.{Scalar}
 use Rattle.lq_value.specs.declared.scalar.Scalar.TheVariants as scalar
 use Rattle.lq_value.specs.declared.ty.Ty.{Ty}
@@ -11,7 +11,8 @@ use Rattle.lq_language.specs.declared.methods.Simple.{Simple}
 use Rattle.lq_language.specs.declared.methods.Simple.TheVariants as simple
 use Rattle.lq_language.specs.Stream.{Stream}
 use Rattle.lq_language.specs.Meaning.{no_number, numbers}
-use Rattle.lq_operators.specs.Numbers.{best_with}
+use Rattle.lq_language.specs.Operations.{on_ok}
+use Rattle.lq_operators.specs.Numbers.{best_more, best_with, sum_more}
 use Rattle.lq_operators.specs.declared.numbers.Extreme.TheVariants as extreme
 use Rattle.lq_operators.specs.declared.numbers.Tally.{Tally}
 use Rattle.lq_operators.specs.declared.numbers.Tally.TheVariants as tally
@@ -23,6 +24,18 @@ begins simple.Sum = Some (tally.Sum (pos 0))
 begins simple.Min = Some (tally.Best extreme.Least None)
 begins simple.Max = Some (tally.Best extreme.Greatest None)
 begins method = None
+
+-- the number that a scalar is; null is none
+abbrev pub int_in : Scalar → Option ℤ
+int_in (scalar.Int n) = Some n
+int_in other = None
+
+-- the tally with an item more, which is this number, or none; or the fault that is met there
+abbrev pub tally_with : Tally → Option ℤ → Result Tally Fault
+tally_with (tally.Count n) number = on_ok (sum_more n (pos 1)) (λ m. Ok (tally.Count m))
+tally_with (tally.Sum n) None = Ok (tally.Sum n)
+tally_with (tally.Sum n) (Some m) = on_ok (sum_more n m) (λ k. Ok (tally.Sum k))
+tally_with (tally.Best which best) number = Ok (tally.Best which (best_more which best number))
 
 -- the answer where nothing is left to read
 abbrev pub tally_result : Ty → Tally → End → Result Scalar Fault

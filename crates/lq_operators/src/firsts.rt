@@ -1,71 +1,87 @@
 //! The distinct items: each at its first appearance.
-ghost use Rattle.std.specs.Prelude.{◌≡◌, [], map, IfOk};
-ghost use Rattle.lq_value.specs.Keys.{key_value};
+ghost use Rattle.std.specs.Prelude.{◌≡◌, IfOk};
 ghost use Rattle.lq_value.specs.SameAndOrder.{same_values};
 ghost use Rattle.lq_language.specs.Stream.{first_keys};
-ghost use Rattle.lq_operators.specs.Places.{FindsKeys, new_from, sifted};
+ghost use Rattle.lq_operators.specs.Places.{AreKnown};
 
-use crate::keys::{is_among_before, lookup_of};
-use lq_lookup::Lookup;
-use lq_value::{List, RowRef, Value, copy};
+use crate::hints::Hints;
+use crate::keys::{is_first, is_other_same};
+use lq_lookup::Numbering;
+use lq_value::{List, RowRef, Value};
 use std::alloc::{AllocError, Global};
 
+/// The distinct items of those that were added, each at its first appearance (.NET,
+/// Enumerable.Distinct). Contracts see it through `firsts_in`, the list of these.
+#[derive(Drop)]
+pub struct Distinct<R> {
+    keys: Numbering,
+    firsts: List<Value<R>>,
+    hints: Hints,
+    ghost known: { AreKnown keys firsts },
+}
+
+impl<R: RowRef> Distinct<R> {
+    ghost use Rattle.std.specs.Prelude.{◌≡◌, [], IfOk, OnOk};
+    ghost use Rattle.lq_operators.specs.Firsts.{AddsFirst, firsts_in};
+
+    /// Of no items, with room for `room` of them.
+    pub fn new(alloc: Global, room: usize) -> Result<Distinct<R>, AllocError>
+        ensures { IfOk result (λ distinct. firsts_in distinct ≡ []) }
+    {
+        let keys = Numbering::new(alloc, room)?;
+        let firsts = List::new(alloc);
+        let hints = Hints::new(alloc);
+        Ok(Distinct {
+            keys,
+            firsts,
+            hints,
+        })
+    }
+
+    /// Puts an item after the others, unless it is the same as one of them. It is moved, and its key
+    /// is hashed once at most.
+    #[inline]
+    pub fn add(&mut self, alloc: Global, item: Value<R>) -> Result<(), AllocError>
+        ensures { OnOk result (AddsFirst (firsts_in self.old) (firsts_in self.new) item) }
+    {
+        let hint = self.hints.place(&item);
+        if is_other_same(&item, self.firsts.as_slice(), hint) {
+            return Ok(());
+        }
+        self.add_by_key(alloc, item)
+    }
+
+    // The same, by the item's key.
+    fn add_by_key(&mut self, alloc: Global, item: Value<R>) -> Result<(), AllocError>
+        ensures { OnOk result (AddsFirst (firsts_in self.old) (firsts_in self.new) item) }
+    {
+        let (is_first, place) = is_first(alloc, &mut self.keys, self.firsts.as_slice(), &item)?;
+        self.hints.set(alloc, &item, place);
+        if is_first {
+            return self.firsts.push(item);
+        }
+        Ok(())
+    }
+
+    /// The distinct items, in the order in which they came.
+    pub fn into_items(self) -> List<Value<R>>
+        ensures { result ≡ firsts_in self }
+    {
+        let Distinct { firsts, .. } = self;
+        firsts
+    }
+}
+
 // The items that are the same as none before them, moved and not copied.
-#[tactic(auto, using(crate::proofs::FirstLemmas::sifted_firsts))]
-pub(crate) fn distinct<R: RowRef>(
+pub(crate) fn firsts_of<R: RowRef>(
     alloc: Global,
     items: List<Value<R>>,
 ) -> Result<List<Value<R>>, AllocError>
     ensures { IfOk result (λ firsts. firsts ≡ first_keys same_values items) }
 {
-    let news = news_of(alloc, items.as_slice())?;
-    sift(alloc, items, news.as_slice())
-}
-
-// Of each value whether it is the same as none before it.
-fn news_of<R: RowRef>(alloc: Global, values: &[Value<R>]) -> Result<Vec<bool>, AllocError>
-    ensures { IfOk result (λ news. news.items ≡ new_from same_values [] values.now) }
-{
-    let lookup = lookup_of(alloc, values)?;
-    let mut news = Vec::with_capacity(alloc, values.len())?;
-    for (place, value) in values.iter().enumerate() {
-        let is_old = is_among_before(alloc, value, values, place, &lookup)?;
-        news.push(!is_old)?;
-    }
-    Ok(news)
-}
-
-// The items with a true beside them.
-fn sift<T: Drop>(alloc: Global, items: List<T>, keeps: &[bool]) -> Result<List<T>, AllocError>
-    ensures { IfOk result (λ selection. selection ≡ sifted keeps.now items) }
-{
-    let mut selection = List::new(alloc);
-    let mut rest = keeps;
+    let mut distinct = Distinct::new(alloc, items.len())?;
     for item in items.into_vec() {
-        if let Some((keep, others)) = rest.split_first() {
-            rest = others;
-            if *keep {
-                selection.push(item)?;
-            }
-        }
+        distinct.add(alloc, item)?;
     }
-    Ok(selection)
-}
-
-// Copies of the values that are the same as none before them.
-pub(crate) fn copied_firsts<R: RowRef>(
-    alloc: Global,
-    values: &[Value<R>],
-    lookup: &Lookup,
-) -> Result<List<Value<R>>, AllocError>
-    requires { FindsKeys lookup.now (map key_value values.now) }
-    ensures { IfOk result (λ firsts. firsts ≡ first_keys same_values values.now) }
-{
-    let mut firsts = List::new(alloc);
-    for (place, value) in values.iter().enumerate() {
-        if !is_among_before(alloc, value, values, place, lookup)? {
-            firsts.push(copy(alloc, value)?)?;
-        }
-    }
-    Ok(firsts)
+    Ok(distinct.into_items())
 }

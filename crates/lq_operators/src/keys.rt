@@ -1,13 +1,15 @@
 //! Keys of values, and the places of what is the same as a value.
-ghost use Rattle.std.specs.Prelude.{◌≡◌, map, take, IfOk};
+ghost use Rattle.std.specs.Prelude.{◌≡◌, map, not, IfOk, OnErr, OnOk};
 ghost use Rattle.std.specs.List.{list_any};
+ghost use Rattle.lq_value.specs.KeyTests.{key_is};
 ghost use Rattle.lq_value.specs.Keys.{key_value};
-ghost use Rattle.lq_value.specs.SameAndOrder.{same_values};
+ghost use Rattle.lq_value.specs.Lookups.{with_key};
+ghost use Rattle.lq_value.specs.SameAndOrder.{same_scalars, same_values};
 ghost use Rattle.lq_language.specs.Enumerable.{is_among};
-ghost use Rattle.lq_operators.specs.Places.{FindsKeys, passes_at, passes_before};
+ghost use Rattle.lq_operators.specs.Places.{AreKnown, FindsKeys, IsPlaceOf, passes_at, place_in};
 
-use lq_lookup::{Lookup, Nulls};
-use lq_value::{Key, RowRef, Value, key_of, same};
+use lq_lookup::{Lookup, Nulls, Numbering};
+use lq_value::{Key, List, RowRef, Scalar, Value, key_of, same};
 use std::alloc::{AllocError, Global};
 
 // The keys of values.
@@ -62,52 +64,143 @@ pub(crate) fn is_same_at<R: RowRef>(value: &Value<R>, values: &[Value<R>], place
     ensures { result ≡ passes_at (same_values value.now) values.now place }
 {
     match values.get(place) {
-        Some(other) => same(value, other),
+        Some(other) => are_same(value, other),
         None => false,
     }
 }
 
-// Whether a value is the same as one of these before a place. Of one key type's values the first at the places of the key
-// decides, so that all of a list are asked in a time that grows as its length does.
-pub(crate) fn is_among_before<R: RowRef>(
-    alloc: Global,
-    value: &Value<R>,
-    values: &[Value<R>],
-    bound: usize,
-    lookup: &Lookup,
-) -> Result<bool, AllocError>
-    requires { FindsKeys lookup.now (map key_value values.now) }
-    ensures { IfOk result (λ answer. answer
-        ≡ list_any (λ other. same_values other value.now) (take bound values.now)) }
+// Whether the value at a place, met first, is the same as this one.
+#[inline]
+pub(crate) fn is_other_same<R: RowRef>(value: &Value<R>, values: &[Value<R>], place: usize) -> bool
+    ensures { result ≡ passes_at (λ other. same_values other value.now) values.now place }
 {
-    let key = key_of(alloc, value)?;
-    Ok(is_same_before(value, values, bound, lookup.find(&key)))
+    match values.get(place) {
+        Some(other) => are_same(other, value),
+        None => false,
+    }
 }
 
-// Whether a value at one of these places, before the bound, is the same as this one.
-fn is_same_before<R: RowRef>(
-    value: &Value<R>,
-    values: &[Value<R>],
-    bound: usize,
-    places: &[usize],
-) -> bool
-    ensures { result ≡ list_any (passes_before
-        (λ other. same_values other value.now) values.now bound) places.now }
+// Whether two values are the same: two scalars are compared at once.
+#[inline]
+#[tactic(auto, using(lq_value::proofs::SamenessLaws::sameness))]
+fn are_same<R: RowRef>(left: &Value<R>, right: &Value<R>) -> bool
+    ensures { result ≡ same_values left.now right.now }
 {
-    for place in places {
-        if *place < bound && is_other_same(value, values, *place) {
+    match (left, right) {
+        (Value::Scalar(left), Value::Scalar(right)) => are_same_scalars(left, right),
+        _ => same(left, right),
+    }
+}
+
+#[inline]
+fn are_same_scalars(left: &Scalar, right: &Scalar) -> bool
+    ensures { result ≡ same_scalars left.now right.now }
+{
+    match (left, right) {
+        (Scalar::Null, Scalar::Null) => true,
+        (Scalar::Int(left), Scalar::Int(right)) => left == right,
+        (Scalar::Bool(left), Scalar::Bool(right)) => left == right,
+        (Scalar::Text(left), Scalar::Text(right)) => left.as_str() == right.as_str(),
+        _ => false,
+    }
+}
+
+// Whether a value is the same as none of these, whose keys are among the keys; and a place, where one that is the same is likely
+// to be. The value's own key is there from then on.
+pub(crate) fn is_first<R: RowRef>(
+    alloc: Global,
+    keys: &mut Numbering,
+    values: &[Value<R>],
+    value: &Value<R>,
+) -> Result<(bool, usize), AllocError>
+    requires { AreKnown keys.old values.now }
+    ensures answer { IfOk result (λ answer. answer.0
+        ≡ not (list_any (λ other. same_values other value.now) values.now)) }
+    ensures keys { OnOk result (keys.new ≡ with_key key_is keys.old (key_value value.now)) }
+    ensures refused { OnErr result (keys.new ≡ keys.old) }
+{
+    let key = key_of(alloc, value)?;
+    let (number, is_new) = keys.number(key)?;
+    Ok((is_new || !is_among_near(value, values, number), number))
+}
+
+// Whether a value is the same as one of these, where the one at this place is likely to be it.
+fn is_among_near<R: RowRef>(value: &Value<R>, values: &[Value<R>], place: usize) -> bool
+    ensures { result ≡ list_any (λ other. same_values other value.now) values.now }
+{
+    is_other_same(value, values, place) || is_one_same(value, values)
+}
+
+// Whether a value is the same as one of these, asked one by one.
+fn is_one_same<R: RowRef>(value: &Value<R>, values: &[Value<R>]) -> bool
+    ensures { result ≡ list_any (λ other. same_values other value.now) values.now }
+{
+    for other in values {
+        if same(other, value) {
             return true;
         }
     }
     false
 }
 
-// Whether the value at a place, met first, is the same as this one.
-fn is_other_same<R: RowRef>(value: &Value<R>, values: &[Value<R>], place: usize) -> bool
-    ensures { result ≡ passes_at (λ other. same_values other value.now) values.now place }
+// The place of the group of a key, past the last one where there is none. The groups' keys are among the keys, and so is this
+// one from then on.
+pub(crate) fn place_of<R: RowRef>(
+    alloc: Global,
+    keys: &mut Numbering,
+    groups: &[(Value<R>, List<Value<R>>)],
+    key: &Value<R>,
+) -> Result<usize, AllocError>
+    requires { AreKnown keys.old (map (λ group. group.0) groups.now) }
+    ensures place { IfOk result (IsPlaceOf key.now groups.now) }
+    ensures keys { OnOk result (keys.new ≡ with_key key_is keys.old (key_value key.now)) }
+    ensures refused { OnErr result (keys.new ≡ keys.old) }
 {
-    match values.get(place) {
-        Some(other) => same(other, value),
+    let hashed = key_of(alloc, key)?;
+    let (number, is_new) = keys.number(hashed)?;
+    if is_new {
+        return Ok(groups.len());
+    }
+    Ok(place_near(key, groups, number))
+}
+
+// The place of the group of a key, where the one at this place is likely to be it.
+fn place_near<R: RowRef>(
+    key: &Value<R>,
+    groups: &[(Value<R>, List<Value<R>>)],
+    place: usize,
+) -> usize
+    ensures { IsPlaceOf key.now groups.now result }
+{
+    if is_group_of(key, groups, place) {
+        return place;
+    }
+    first_group_of(key, groups)
+}
+
+// Whether the group at a place is that of a key.
+#[inline]
+pub(crate) fn is_group_of<R: RowRef>(
+    key: &Value<R>,
+    groups: &[(Value<R>, List<Value<R>>)],
+    place: usize,
+) -> bool
+    ensures { result ≡ passes_at (λ group. same_values group.0 key.now) groups.now place }
+{
+    match groups.get(place) {
+        Some(group) => are_same(&group.0, key),
         None => false,
     }
+}
+
+// The place of the first group of a key, asked one by one.
+fn first_group_of<R: RowRef>(key: &Value<R>, groups: &[(Value<R>, List<Value<R>>)]) -> usize
+    ensures { result ≡ place_in (λ group. same_values group.0 key.now) groups.now }
+{
+    for (place, group) in groups.iter().enumerate() {
+        if same(&group.0, key) {
+            return place;
+        }
+    }
+    groups.len()
 }

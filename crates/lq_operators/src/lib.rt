@@ -1,8 +1,8 @@
 //! Operators of sequences over items that are there: what each makes of them.
 //!
-//! `simple`, `given`, `Matches`, `group_pairs` and `sorted` give what a method, a join, a group or an
-//! arrangement means on the items and their ending, or its fault; `Tally` counts, sums and compares
-//! item by item.
+//! `simple`, `given`, `Distinct`, `Matches`, `Grouping`, `group_pairs` and `sort_by_columns` give what a
+//! method, a join, a group or an arrangement means on the items and their ending, or its fault; `Tally`
+//! counts, sums and compares item by item.
 #![tactic(auto)]
 
 mod arguments;
@@ -12,6 +12,7 @@ mod error;
 mod firsts;
 mod given_methods;
 mod groups;
+mod hints;
 mod items;
 mod keys;
 mod matches;
@@ -24,9 +25,10 @@ mod simple_methods;
 mod slices;
 
 pub use error::RunError;
+pub use firsts::Distinct;
 pub use given_methods::given;
-pub use groups::group_pairs;
+pub use groups::{Grouping, group_pairs};
 pub use matches::Matches;
 pub use numbers::{Extreme, Tally};
-pub use order::sorted;
+pub use order::sort_by_columns;
 pub use simple_methods::simple;

@@ -1,14 +1,14 @@
 //! The inner side of a join.
-ghost use Rattle.std.specs.Prelude.{◌≡◌, map};
+ghost use Rattle.std.specs.Prelude.{◌≡◌, false, map, IfSome};
 ghost use Rattle.lq_value.specs.Keys.{key_value};
 ghost use Rattle.lq_value.specs.declared.value.Value.{out-Value};
 ghost use Rattle.lq_language.specs.ClauseMeaning.{is_null_layer};
 ghost use Rattle.lq_operators.specs.Places.{FindsKeys};
 
-use crate::keys::lookup_of;
+use crate::keys::{is_same_at, lookup_of};
 use crate::pairs::{elements_of, split};
 use lq_lookup::Lookup;
-use lq_value::{List, RowRef, Scalar, Value};
+use lq_value::{Key, List, RowRef, Scalar, Value, key_of};
 use std::alloc::{AllocError, Global};
 
 /// Items with their keys, prepared for a join (.NET, Enumerable.Join and GroupJoin). Contracts
@@ -23,8 +23,9 @@ pub struct Matches<R> {
 
 impl<R: RowRef> Matches<R> {
     ghost use Rattle.std.specs.Prelude.{◌≡◌, IfOk};
+    ghost use Rattle.std.specs.Option.{option_map};
     ghost use Rattle.lq_language.specs.ClauseMeaning.{matches};
-    ghost use Rattle.lq_operators.specs.Matching.{pairs_of};
+    ghost use Rattle.lq_operators.specs.Matching.{item_at, items_at, pairs_of};
 
     /// The pairs of a key and its item, in their order.
     #[tactic(auto, using(crate::proofs::PairLemmas::zip_both), unfolding(crate::specs::Matching::pairs_of))]
@@ -57,6 +58,42 @@ impl<R: RowRef> Matches<R> {
             &self.lookup,
         )
     }
+
+    /// Places at which `item` gives, one after another, exactly the items whose keys are the same as
+    /// `key`, in their order. A key that is itself null has none.
+    pub fn places(&self, alloc: Global, key: &Value<R>) -> Result<&[usize], AllocError>
+        ensures { IfOk result (λ places. items_at self.now key.now places.now
+            ≡ matches key.now (pairs_of self.now)) }
+    {
+        match int_key(key) {
+            Some(hashed) => Ok(self.lookup.find(&hashed)),
+            None => self.places_by_key(alloc, key),
+        }
+    }
+
+    // The same, whatever the key is.
+    #[tactic(auto, unfolding(crate::specs::Matching::pairs_of))]
+    fn places_by_key(&self, alloc: Global, key: &Value<R>) -> Result<&[usize], AllocError>
+        ensures { IfOk result (λ places. items_at self.now key.now places.now
+            ≡ matches key.now (pairs_of self.now)) }
+    {
+        if is_null(key) {
+            return Ok(&[]);
+        }
+        let hashed = key_of(alloc, key)?;
+        Ok(self.lookup.find(&hashed))
+    }
+
+    /// The item at a place, where its key is the same as `key`. Takes no memory.
+    #[tactic(auto, unfolding(crate::specs::Matching::item_at))]
+    pub fn item(&self, key: &Value<R>, place: usize) -> Option<&Value<R>>
+        ensures { option_map (λ item. item.now) result ≡ item_at self.now key.now place }
+    {
+        if is_same_at(key, self.keys.as_slice(), place) {
+            return self.items.as_slice().get(place);
+        }
+        None
+    }
 }
 
 // Whether a value is null.
@@ -71,5 +108,18 @@ fn is_null<R: RowRef>(value: &Value<R>) -> bool
         Value::Rec(_) => false,
         Value::Group(_, _) => false,
         Value::Seq(_, _) => false,
+    }
+}
+
+// The key of a value that is an int.
+#[inline]
+#[tactic(auto, using(lq_value::proofs::KeyLaws::keying, crate::proofs::Opens::layers))]
+fn int_key<R: RowRef>(value: &Value<R>) -> Option<Key>
+    ensures { IfSome result (λ key. (key ≡ key_value value.now)
+        × (is_null_layer (out-Value R value.now) ≡ false)) }
+{
+    match value {
+        Value::Scalar(Scalar::Int(int)) => Some(Key::Int(*int)),
+        _ => None,
     }
 }

@@ -6,7 +6,7 @@ ghost use Rattle.lq_language.specs.Enumerable.{in_front};
 ghost use Rattle.lq_language.specs.Stream.{Stream};
 ghost use Rattle.lq_language.specs.Meaning.{number_in};
 ghost use Rattle.lq_operators.specs.Numbers.{best_more, better, sum_more};
-ghost use Rattle.lq_operators.specs.Tallies.{begins, goes_on, tallied, tally_result};
+ghost use Rattle.lq_operators.specs.Tallies.{begins, goes_on, int_in, tallied, tally_result, tally_with};
 
 use crate::defaults::no_number;
 use crate::ending::at_end;
@@ -46,6 +46,16 @@ fn number_in<R: RowRef>(item: &Value<R>) -> Option<i32>
         Value::Rec(_) => None,
         Value::Group(_, _) => None,
         Value::Seq(_, _) => None,
+    }
+}
+
+// The number that a scalar is; null isn't one.
+fn int_in(scalar: &Scalar) -> Option<i32>
+    ensures { result ≡ int_in scalar.now }
+{
+    match scalar {
+        Scalar::Int(number) => Some(*number),
+        _ => None,
     }
 }
 
@@ -99,19 +109,36 @@ impl Tally {
 
     /// The tally with one item more. A count or a sum past what an int holds is an overflow, at
     /// that item.
-    #[tactic(auto, using(crate::proofs::NumberLaws::steps))]
+    #[inline]
+    #[tactic(auto, using(crate::proofs::NumberLaws::items_on))]
     pub fn with<R: RowRef>(self, item: &Value<R>) -> Result<Tally, Fault>
         ensures { (t : Ty) (s : Stream (Value R))
             → tallied t self (in_front item.now s) ≡ goes_on t result s }
     {
+        self.with_number(number_in(item))
+    }
+
+    /// The same, where the item is this scalar.
+    #[inline]
+    pub fn with_scalar(self, scalar: &Scalar) -> Result<Tally, Fault>
+        ensures { result ≡ tally_with self (int_in scalar.now) }
+    {
+        self.with_number(int_in(scalar))
+    }
+
+    /// The same, where the item is this number, or none at all: a row isn't one.
+    #[inline]
+    pub fn with_number(self, number: Option<i32>) -> Result<Tally, Fault>
+        ensures { result ≡ tally_with self number }
+    {
         match self {
             Tally::Count(count) => Ok(Tally::Count(sum_more(count, 1)?)),
-            Tally::Sum(total) => match number_in(item) {
+            Tally::Sum(total) => match number {
                 Some(number) => Ok(Tally::Sum(sum_more(total, number)?)),
                 None => Ok(Tally::Sum(total)),
             },
             Tally::Best(extreme, best) => {
-                Ok(Tally::Best(extreme, best_more(extreme, best, number_in(item))))
+                Ok(Tally::Best(extreme, best_more(extreme, best, number)))
             }
         }
     }

@@ -7,7 +7,7 @@ ghost use Rattle.lq_operators.specs.Arguments.{is_wanted};
 ghost use Rattle.lq_operators.specs.Places.{FindsKeys};
 
 use crate::ending::at_end;
-use crate::firsts::distinct;
+use crate::firsts::firsts_of;
 use crate::keys::{is_among, lookup_of};
 use crate::sequences::Stream;
 use lq_lookup::Lookup;
@@ -46,7 +46,7 @@ pub(crate) fn union<R: RowRef>(
     ensures { IfOk result (λ stream. stream ≡ union same_values first second) }
 {
     let (items, end) = concat(first, second)?;
-    Ok((distinct(alloc, items)?, end))
+    Ok((firsts_of(alloc, items)?, end))
 }
 
 // The distinct items of the first that are in the second, which is read whole before them.
@@ -61,7 +61,7 @@ pub(crate) fn intersect<R: RowRef>(
     match last {
         End::Done => {
             let (items, end) = first;
-            let firsts = distinct(alloc, items)?;
+            let firsts = firsts_of(alloc, items)?;
             Ok((filter_among(alloc, firsts, others.as_slice(), true)?, end))
         }
         End::Fault(_) => Ok((List::new(alloc), last)),
@@ -80,7 +80,7 @@ pub(crate) fn except<R: RowRef>(
     match last {
         End::Done => {
             let (items, end) = first;
-            let candidates = distinct(alloc, items)?;
+            let candidates = firsts_of(alloc, items)?;
             Ok((
                 filter_among(alloc, candidates, others.as_slice(), false)?,
                 end,

@@ -6,7 +6,7 @@ ghost use Rattle.lq_operators.specs.Tallies.{tallied};
 
 use crate::defaults::default_of;
 use crate::error::RunError;
-use crate::firsts::distinct;
+use crate::firsts::firsts_of;
 use crate::items::{any, first, last, single};
 use crate::numbers::{Extreme, Tally, tallied};
 use crate::sequences::{default_if_empty, reversed, sequence};
@@ -26,7 +26,7 @@ pub fn simple<R: RowRef>(
     ensures { IsAnswer (simple_meaning method ty.now (items, end)) result }
 {
     match method {
-        Simple::Distinct => Ok(Value::Seq(distinct(alloc, items)?, end)),
+        Simple::Distinct => Ok(Value::Seq(firsts_of(alloc, items)?, end)),
         Simple::Reverse => Ok(sequence(reversed(alloc, items, end))),
         Simple::DefaultIfEmpty => Ok(sequence(default_if_empty(default_of(ty), items, end)?)),
         Simple::Any => Ok(Value::Scalar(Scalar::Bool(any(items, end)?))),

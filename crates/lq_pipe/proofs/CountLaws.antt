@@ -1,28 +1,42 @@
 -- What methods answer of the items that they read, and of tallies.
-use Rattle.std.proofs.Common.{◌≡◌, ◌∷◌, ◌+◌, List, [], ℕ, zero, suc, ℤ, pos, negsuc, if◌then◌else◌, Bool, true, false, Option, Some, None, Result, Ok, Err, ap, ◌∙◌, sym, refl, subst, arith}
+use Rattle.std.proofs.Common.{◌≡◌, ◌∷◌, ◌+◌, ◌<◌, ◌≤◌, List, [], ℕ, zero, suc, ℤ, pos, negsuc, if◌then◌else◌, Bor, Bool, true, false, Option, Some, None, Result, Ok, Err, ap, ◌∙◌, sym, refl, subst, append-nil, drop, drop-cons, get_or, length, arith}
+use Rattle.std.proofs.lemmas.List.{drop_all}
 use Rattle.lq_value.specs.declared.scalar.Scalar.{Scalar}
 use Rattle.lq_value.specs.declared.scalar.Scalar.TheVariants as scalar
 use Rattle.lq_value.specs.declared.ty.Ty.{Ty}
 use Rattle.lq_value.specs.declared.value.End.{End}
+use Rattle.lq_value.specs.declared.value.End.TheVariants as end
 use Rattle.lq_value.specs.declared.value.Fault.{Fault}
 use Rattle.lq_value.specs.declared.value.Value.{Value, out-Value}
 use Rattle.lq_value.specs.declared.value.Value.TheOpen.{Value-F}
+use Rattle.lq_value.specs.declared.value.Value.TheVariants as value
 use Rattle.lq_language.specs.Enumerable.{all, as_count, contains, element_at, first, in_front, item_behind, single, take_first}
 use Rattle.lq_language.specs.Worlds.{World}
 use Rattle.lq_language.specs.OperandMeaning.{as_value, scalar_of}
 use Rattle.lq_language.specs.Operations.{on_ok}
-use Rattle.lq_language.specs.Stream.{Stream}
+use Rattle.lq_language.specs.Stream.{Stream, item_where, one, then_ending, then_stream}
 use Rattle.lq_language.specs.Meaning.{as_sequence, given_meaning, number_of, on_number, simple_meaning}
 use Rattle.lq_language.specs.declared.methods.Given.{Given}
 use Rattle.lq_language.specs.declared.methods.Given.TheVariants as given
 use Rattle.lq_language.specs.declared.methods.Simple.{Simple}
 use Rattle.lq_language.specs.declared.methods.Simple.TheVariants as simple
-use Rattle.lq_operators.specs.Tallies.{begins, goes_on, tallied, tally_result}
+use Rattle.lq_operators.specs.Tallies.{begins, goes_on, int_in, tallied, tally_result, tally_with}
 use Rattle.lq_operators.specs.declared.numbers.Tally.{Tally}
-use Rattle.lq_operators.proofs.NumberLaws.{begun, told_is}
+use Rattle.lq_operators.specs.declared.numbers.Tally.TheVariants as tally
+use Rattle.lq_operators.proofs.NumberLaws.{begun, row_on, scalar_on, told_is}
+use Rattle.lq_tree.specs.FormMeaning.{Slots, form_meaning, is_true, with_item}
+use Rattle.lq_tree.specs.declared.tree.Form.{Form}
 use Rattle.lq_plan.specs.Counts.{given_limit, value_limit, simple_limit, number_limit, read_first}
+use Rattle.lq_plan.specs.Pipes.{items_left}
+use Rattle.lq_plan.specs.PlannedRows.{kept_stream, row_cell, row_verdict}
+use Rattle.lq_plan.specs.Prepared.{IsPlanned}
+use Rattle.lq_plan.specs.Pulling.{last, through_stage}
+use Rattle.lq_plan.specs.declared.bases.Base.{Base}
+use Rattle.lq_plan.specs.declared.pipes.Pipe.{Pipe}
+use Rattle.lq_plan.specs.declared.stages.Stage.{Stage}
+use Rattle.lq_plan.specs.declared.stages.Stage.TheVariants as stage
 use Rattle.lq_plan.proofs.PullLaws.{left_opened}
-use Rattle.lq_pipe.proofs.PullLaws.{fewer}
+use Rattle.lq_pipe.proofs.PullLaws.{fewer, next_ended, row_selected}
 
 some_is : {A : Type 0} {x y : A} → Some x ≡ Some y → x ≡ y
 some_is {A} {x} is = ap (λ (o : Option A). get_or_else o) is where
@@ -83,13 +97,11 @@ module _ {R : Type 0} where
   pub tally_begins : (t : Ty) (k : Tally) (left all : Stream (Value R)) → left ≡ all → tallied t k left ≡ tallied t k all
   tally_begins t k left all is = ap (tallied t k) is
 
-  pub tally_on : (t : Ty) (k next : Tally) (old new : Stream (Value R)) (x : Value R) (all : Result Scalar Fault) → old ≡ in_front x new
-      → ((u : Ty) (s : Stream (Value R)) → tallied u k (in_front x s) ≡ goes_on u (Ok next) s) → tallied t k old ≡ all → tallied t next new ≡ all
-  tally_on t k next old new x all is steps goes = sym (steps t new) ∙ ap (tallied t k) (sym is) ∙ goes
-
-  pub tally_stopped : (t : Ty) (k : Tally) (f : Fault) (old new : Stream (Value R)) (x : Value R) (all : Result Scalar Fault) → old ≡ in_front x new
-      → ((u : Ty) (s : Stream (Value R)) → tallied u k (in_front x s) ≡ goes_on u (Err f) s) → tallied t k old ≡ all → all ≡ Err f
-  tally_stopped t k f old new x all is steps goes = sym goes ∙ ap (tallied t k) is ∙ steps t new
+  -- with what comes of what is pulled
+  pub tally_on : (t : Ty) (k : Tally) (found next : Result Tally Fault) (old made new : Stream (Value R)) (all : Result Scalar Fault) → old ≡ then_stream made new
+      → ((u : Ty) (s : Stream (Value R)) → tallied u k (then_stream made s) ≡ goes_on u found s) → found ≡ next → tallied t k old ≡ all → goes_on t next new ≡ all
+  tally_on t k found next old made new all is steps found_is goes =
+      ap (λ o. goes_on t o new) (sym found_is) ∙ sym (steps t new) ∙ ap (tallied t k) (sym is) ∙ goes
 
   pub tally_ended : (t : Ty) (k : Tally) (old : Stream (Value R)) (e : End) (all : Result Scalar Fault) → old ≡ ([], e) → tallied t k old ≡ all → tally_result t k e ≡ all
   tally_ended t k old e all is goes = told_is R t k e ∙ ap (tallied t k) (sym is) ∙ goes
@@ -167,6 +179,91 @@ module _ {R : Type 0} (world : World R) where
       → given_meaning world method argument items ≡ given_meaning world method argument s
   given_read method argument l items s is read = given_by method argument l items s (sym is) read
 
+-- ---- tallies of what is pulled
+
+module _ {R : Type 0} where
+  -- a tally goes on with what comes of an item
+  abbrev pub Tallies : Tally → Stream (Value R) → Result Tally Fault → Type 0
+  Tallies k made found = (t : Ty) (rest : Stream (Value R)) → tallied t k (then_stream made rest) ≡ goes_on t found rest
+
+module _ {R : Type 0} (world : World R) (slots : Slots R) (pipe : Pipe) (r : R) where
+  -- a tally goes on with what comes of a row that passes
+  abbrev pub RowStep : Tally → Result Tally Fault → Type 0
+  RowStep k found = Tallies k (last world slots pipe.stage (value.Row r)) found
+
+  -- a row itself is no number
+  pub plain_row : (k : Tally) (found : Result Tally Fault) → pipe.stage ≡ stage.Plain → found ≡ tally_with k None → RowStep k found
+  plain_row k found is gives t rest =
+      ap (λ st. tallied t k (then_stream (last world slots st (value.Row r)) rest)) is ∙ row_on k r found gives t rest
+
+  pub kept_row : (k : Tally) (found : Result Tally Fault) (c : Bor Form) → pipe.stage ≡ stage.Where c → found ≡ tally_with k None → RowStep k found
+  kept_row k found c is gives t rest =
+      ap (λ st. tallied t k (then_stream (last world slots st (value.Row r)) rest)) is ∙ row_on k r found gives t rest
+
+  -- its cell may be one
+  pub cell_of_row : (table_of : R → ℕ) (shown : R → List Scalar) (k : Tally) (found : Result Tally Fault) (body : Bor Form) (s : Scalar) → pipe.stage ≡ stage.Select body
+      → IsPlanned table_of shown world slots pipe.stage pipe.source.now pipe.plan → row_verdict table_of shown pipe.plan r ≡ Some true
+      → row_cell table_of shown pipe.plan r ≡ Some s → found ≡ tally_with k (int_in s) → RowStep k found
+  cell_of_row table_of shown k found body s is planned passes cell gives t rest =
+      ap (λ (m : Stream (Value R)). tallied t k (then_stream m rest)) (row_selected table_of shown world slots pipe body r s s is planned passes cell refl)
+      ∙ scalar_on k s found gives t rest
+
+-- nothing is left of a base that ended
+module _ {R S : Type 0} (table_of : R → ℕ) (shown : R → List Scalar) (world : World R) (slots : Slots R) (pipe : Pipe) (b : Base R S) where
+  pub tally_over : (t : Ty) (k : Tally) (e : End) (all : Result Scalar Fault) → IsPlanned table_of shown world slots pipe.stage pipe.source.now pipe.plan
+      → kept_stream table_of shown pipe.plan b ≡ ([], e) → tallied t k (items_left world slots pipe b) ≡ all → tally_result t k e ≡ all
+  tally_over t k e all planned is goes =
+      tally_ended t k (items_left world slots pipe b) e all (next_ended table_of shown world slots pipe b b e planned refl is) goes
+
+-- ---- tallies over items that stay where they are
+
+module _ {R : Type 0} (world : World R) (slots : Slots R) where
+  -- what a tally comes to over what comes of an item at a stage, and then of any others, is what goes on from a step
+  abbrev pub TallyStep : Stage → Tally → Value R → Result Tally Fault → Type 0
+  TallyStep st k x next =
+      (t : Ty) (rest : Stream (Value R)) → tallied t k (then_stream (through_stage world slots st (x ∷ [], end.Done)) rest) ≡ goes_on t next rest
+
+  -- what comes of a list at a stage is what comes of its first item, and then of the others
+  then_none : (s : Stream (Value R)) → then_stream s ([], end.Done) ≡ s
+  then_none s = at s.0 s.1 where
+    at : (xs : List (Value R)) (e : End) → then_ending xs e ([], end.Done) ≡ (xs, e)
+    at xs end.Done = ap (λ ys. (ys, end.Done)) (append-nil xs)
+    at xs (end.Fault f) = refl
+
+  staged_on : (st : Stage) (x : Value R) (xs : List (Value R)) (e : End)
+      → through_stage world slots st (x ∷ xs, e) ≡ then_stream (through_stage world slots st (x ∷ [], end.Done)) (through_stage world slots st (xs, e))
+  staged_on stage.Plain x xs e = refl
+  staged_on (stage.Where c) x xs e =
+      ap (λ (s : Stream (Value R)). then_stream s (through_stage world slots (stage.Where c) (xs, e)))
+      (sym (then_none (item_where (is_true world (form_meaning world c.now) (with_item world slots x)) x)))
+  staged_on (stage.Select c) x xs e =
+      ap (λ (s : Stream (Value R)). then_stream s (through_stage world slots (stage.Select c) (xs, e)))
+      (sym (then_none (one (form_meaning world c.now (with_item world slots x)))))
+
+  staged_none : (st : Stage) (e : End) → through_stage world slots st ([], e) ≡ ([], e)
+  staged_none stage.Plain e = refl
+  staged_none (stage.Where c) e = refl
+  staged_none (stage.Select c) e = refl
+
+  -- a tally goes on with the next of the items that are left, and comes to its end behind the last
+  pub staged_goes : (st : Stage) (t : Ty) (k : Tally) (found next : Result Tally Fault) (x : Value R) (items : List (Value R)) (i : ℕ) (e : End) (all : Result Scalar Fault)
+      → x ≡ get_or items i x → i < length items → TallyStep st k x found → found ≡ next
+      → tallied t k (through_stage world slots st (drop i items, e)) ≡ all → goes_on t next (through_stage world slots st (drop (i + 1) items, e)) ≡ all
+  staged_goes st t k found next x items i e all is below steps found_is goes =
+      let more : suc i ≡ i + 1 = omega arith in
+      ap (λ n. goes_on t next (through_stage world slots st (drop n items, e))) (sym more)
+      ∙ ap (λ o. goes_on t o (through_stage world slots st (drop (suc i) items, e))) (sym found_is)
+      ∙ sym (steps t (through_stage world slots st (drop (suc i) items, e)))
+      ∙ ap (tallied t k) (sym (staged_on st x (drop (suc i) items) e))
+      ∙ ap (λ y. tallied t k (through_stage world slots st (y ∷ drop (suc i) items, e))) is
+      ∙ ap (λ l. tallied t k (through_stage world slots st (l, e))) (sym (drop-cons items i x below)) ∙ goes
+
+  pub staged_ends : (st : Stage) (t : Ty) (k : Tally) (items : List (Value R)) (i : ℕ) (e : End) (all : Result Scalar Fault) → length items ≤ i
+      → tallied t k (through_stage world slots st (drop i items, e)) ≡ all → tally_result t k e ≡ all
+  staged_ends st t k items i e all over goes =
+      told_is R t k e ∙ ap (tallied t k) (sym (staged_none st e))
+      ∙ ap (λ l. tallied t k (through_stage world slots st (l, e))) (sym (drop_all i items over)) ∙ goes
+
 module _ {A : Type 0} (same : A → A → Bool) (v : A) where
   -- an item that isn't the value is passed by, and the first that is answers
   pub contains_on : (old new : Stream A) (x : A) (all : Result Bool Fault) → old ≡ in_front x new → same v x ≡ false
@@ -190,4 +287,6 @@ pub ruleset contains_steps = (left_opened, contains_begins, contains_on, contain
 
 pub ruleset all_steps = (left_opened, all_begins, fewer)
 
-pub ruleset tallies = (left_opened, tally_begins, tally_on, tally_stopped, tally_ended, fewer)
+pub ruleset tallies = (left_opened, tally_begins, fewer)
+
+pub ruleset tally_rows = (plain_row, kept_row)

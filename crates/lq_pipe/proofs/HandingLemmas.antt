@@ -1,5 +1,5 @@
 -- The rows that the base of a pipe hands out, pull by pull.
-use Rattle.std.proofs.Common.{◌≡◌, ◌∷◌, ◌++◌, ◌⊎◌, ◌∙◌, inl, inr, List, [], ℕ, false, Some, Ok, Err, ap, append_assoc, refl, subst, sym}
+use Rattle.std.proofs.Common.{◌≡◌, ◌∷◌, ◌++◌, ◌⊎◌, ◌∙◌, inl, inr, List, [], ℕ, false, Some, IfOk, Result, Ok, Err, ap, append_assoc, refl, subst, sym}
 use Rattle.lq_value.specs.declared.scalar.Scalar.{Scalar}
 use Rattle.lq_value.specs.declared.value.End.{End}
 use Rattle.lq_value.specs.declared.value.End.TheVariants as end
@@ -22,6 +22,7 @@ use Rattle.lq_plan.specs.declared.bases.Pulled.TheVariants as pulled
 use Rattle.lq_plan.specs.declared.pipes.Pipe.{Pipe}
 use Rattle.lq_plan.proofs.PlanLaws.{row_says}
 use Rattle.lq_pipe.specs.Handing.{GivesNothing, HandsAtMost, HandsUpTo, Passes, PassesAll, Settles}
+use Rattle.lq_pipe.specs.Steps.{GivesStep}
 
 every_as : {A : Type 0} (P Q : A → Type 0) → ((x : A) → P x → Q x) → (xs : List A) → Every P xs → Every Q xs
 every_as P Q is [] ps = every_none Q
@@ -100,6 +101,13 @@ module _ {R : Type 0} (table_of : R → ℕ) (shown : R → List Scalar) (world 
       pub hands_fault : (p : Pulled R) (f : Fault) → HandsOut table_of shown pipe.plan rows m (Ok p) left k → ([], end.Fault f) ≡ comes (pulled_value p)
           → HandsUpTo world slots pipe start n (Err (end.Fault f)) left k
       hands_fault p f hands gives = settled p ([], end.Fault f) hands gives
+
+      pub hands_given : {E : Type 0} → (p : Pulled R) (answer : Result (Result (Value R) End) E) → HandsOut table_of shown pipe.plan rows m (Ok p) left k
+          → IfOk answer (GivesStep (comes (pulled_value p))) → IfOk answer (λ step. HandsUpTo world slots pipe start n step left k)
+      hands_given p (Ok (Ok v)) hands gives = hands_item p v hands (sym gives)
+      hands_given p (Ok (Err (end.Fault f))) hands gives = hands_fault p f hands (sym gives)
+      hands_given p (Ok (Err end.Done)) hands gives = absurd gives
+      hands_given p (Err e) hands gives = tt
 
       -- and at the end all rows are handed out
       pub hands_end : (e : End) → HandsOut table_of shown pipe.plan rows m (Err e) left k → HandsUpTo world slots pipe start n (Err e) left k

@@ -1,5 +1,5 @@
 -- What comes of an item in a slot of its own, and of each item of what it leads to.
-use Rattle.std.proofs.Common.{◌≡◌, ◌∷◌, ◌++◌, List, [], Bor, Some, None, Result, Ok, ap, ◌∙◌, sym, refl, subst, append_assoc, IfOk}
+use Rattle.std.proofs.Common.{◌≡◌, ◌∷◌, ◌++◌, List, [], Bor, Some, None, Result, Ok, Err, map, ap, ◌∙◌, sym, refl, subst, append_assoc, IfOk}
 use Rattle.lq_value.specs.declared.value.End.{End}
 use Rattle.lq_value.specs.declared.value.End.TheVariants as end
 use Rattle.lq_value.specs.declared.value.Fault.{Fault}
@@ -12,8 +12,11 @@ use Rattle.lq_tree.specs.FormMeaning.{Slots, form_meaning, matched, with_item, w
 use Rattle.lq_tree.specs.declared.tree.Form.{Form}
 use Rattle.lq_tree.specs.declared.tree.Joined.{Joined}
 use Rattle.lq_tree.specs.declared.tree.Form.TheVariants as form
+use Rattle.lq_language.specs.ClauseMeaning.{as_group}
+use Rattle.lq_operators.specs.Groups.{groups_in as built}
+use Rattle.lq_operators.specs.declared.groups.Grouping.{Grouping}
 use Rattle.lq_plan.specs.Groups.{groups_in}
-use Rattle.lq_pipe.specs.Items.{item_expansion, item_join, keys_and_elements}
+use Rattle.lq_pipe.specs.Items.{AreGrouped, item_expansion, item_join, keys_and_elements}
 use Rattle.lq_plan.specs.Pulling.{through_select}
 use Rattle.lq_plan.proofs.FormLaws.{form_group_by, form_join, form_select_many}
 
@@ -56,14 +59,28 @@ module _ {R : Type 0} (world : World R) (slots : Slots R) where
       ∙ ap (λ (t : Stream (Value R)). Ok (sequence (each (item_expansion world slots inner result) t.0 t.1))) (sym is)
       ∙ ap (λ (t : Stream (Value R)). Ok (sequence t)) (sym h)
 
-  pub group_by_answer : (a key : Form) (element : Bor Form) (s : Stream (Value R)) (d : End) (pairs : List (Value R × Value R)) (v : Value R)
-      → s ≡ stream_of world (form_meaning world a slots) → (pairs, d) ≡ keys_and_elements world slots key (Some element) s
-      → v ≡ sequence (whole pairs d groups_in) → form_meaning world (form.GroupBy a key element.now) slots ≡ Ok v
-  group_by_answer a key element s d pairs v is pairs_are h =
-      form_group_by world a key element.now slots
-      ∙ ap (λ (t : Stream (Value R)). Ok (sequence (whole (keys_and_elements world slots key (Some element) t).0 (keys_and_elements world slots key (Some element) t).1 groups_in))) (sym is)
-      ∙ ap (λ (t : Stream (Value R × Value R)). Ok (sequence (whole t.0 t.1 groups_in))) (sym pairs_are)
-      ∙ ap (λ w. Ok w) (sym h)
+  -- groups that were built of pairs, where these came to their end, and where they didn't
+  module _ (a key element : Form) (k : Form) (e : Bor Form) (key_is : k ≡ key) (element_is : e.now ≡ element) where
+    abbrev pairs : Stream (Value R × Value R)
+    pairs = keys_and_elements world slots k (Some e) (stream_of world (form_meaning world a slots))
+
+    by_lambdas : (v : Value R) → form_meaning world (form.GroupBy a k e.now) slots ≡ Ok v → form_meaning world (form.GroupBy a key element) slots ≡ Ok v
+    by_lambdas v h =
+        subst (λ f. form_meaning world (form.GroupBy a f element) slots ≡ Ok v) key_is
+        (subst (λ f. form_meaning world (form.GroupBy a k f) slots ≡ Ok v) element_is h)
+
+    pub group_by_done : (grouping : Grouping R) (d : End) (gs : List (Value R)) → AreGrouped grouping d pairs → d ≡ end.Done → gs ≡ map as_group (built grouping)
+        → form_meaning world (form.GroupBy a key element) slots ≡ Ok (value.Seq gs end.Done)
+    group_by_done grouping d gs are done gs_are =
+        by_lambdas (value.Seq gs end.Done)
+        (form_group_by world a k e.now slots ∙ ap (λ c. Ok (sequence (whole pairs.0 c groups_in))) (sym are.1 ∙ done)
+        ∙ ap (λ l. Ok (value.Seq l end.Done)) (sym (gs_are ∙ ap (map as_group) are.0)))
+
+    pub group_by_stops : (grouping : Grouping R) (d : End) (f : Fault) (v : Value R) → AreGrouped grouping d pairs → d ≡ end.Fault f → v ≡ sequence ([], end.Fault f)
+        → form_meaning world (form.GroupBy a key element) slots ≡ Ok v
+    group_by_stops grouping d f v are stops h =
+        by_lambdas v
+        (form_group_by world a k e.now slots ∙ ap (λ c. Ok (sequence (whole pairs.0 c groups_in))) (sym are.1 ∙ stops) ∙ ap (λ w. Ok w) (sym h))
 
   -- the inner items with their keys, and then what comes of the outer ones
   abbrev joined_by : Joined Form → Stream (Value R × Value R) → Stream (Value R) → Stream (Value R)
@@ -107,3 +124,10 @@ module _ {R : Type 0} (world : World R) (slots : Slots R) where
       subst (λ (t : Stream (Value R)). IfOk answer (λ s. s ≡ t))
       (ap (λ l. select_each (λ w. form_meaning world j.result (with_items world slots x w)) (l, end.Done)) (same ∙ found_is)
       ∙ ap (λ (m : Result (Value R) Fault). on_value m (λ y. select_each (λ w. form_meaning world j.result (with_items world slots x w)) (matched world j.grouped y qs, end.Done))) met) h
+
+  -- and of one whose key is a fault
+  pub joined_unmet : (j : Joined Form) (qs : List (Value R × Value R)) (x : Value R) (f : Fault) (vs : List (Value R)) → vs ≡ []
+      → Err f ≡ form_meaning world j.outer_key (with_item world slots x) → ◌≡◌ {A = Stream (Value R)} (vs, end.Fault f) (item_join world slots j qs x)
+  joined_unmet j qs x f vs none unmet =
+      ap (λ l. (l, end.Fault f)) none
+      ∙ ap (λ (m : Result (Value R) Fault). on_value m (λ y. select_each (λ w. form_meaning world j.result (with_items world slots x w)) (matched world j.grouped y qs, end.Done))) unmet

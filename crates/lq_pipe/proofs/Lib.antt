@@ -1,6 +1,7 @@
 pub mod AnswerLemmas
 pub mod CountLaws
 pub mod DrainLemmas
+pub mod GroupLemmas
 pub mod HandingLemmas
 pub mod ItemLemmas
 pub mod KeyLemmas

@@ -21,7 +21,7 @@ use Rattle.lq_tree.specs.FormMeaning.{Slots, form_meaning, matched, with_item}
 use Rattle.lq_tree.specs.Watches.{HasGrown, HasPulled, RowFacts, Watch, has_watched_rows, have_watched_rows, is_covered, is_covered_above}
 use Rattle.lq_tree.specs.declared.tree.Form.{Form}
 use Rattle.lq_tree.proofs.CoveredLaws.{above_select_body, above_select_source, above_sequence, above_where_body, above_where_source, covered_above, covered_select_body, covered_select_source, covered_sequence, covered_where_body, covered_where_source}
-use Rattle.lq_tree.proofs.LogLaws.{front_passes, pulled_grows, pulled_left}
+use Rattle.lq_tree.proofs.LogLaws.{front_passes, pulled_grows, pulled_left, pulled_more, pulled_none}
 use Rattle.lq_tree.proofs.WatchLaws.{stream_passes}
 use Rattle.lq_tree.proofs.WatchedValueLaws.{all_at, all_one, both_so, each_all, sequence_watched}
 use Rattle.lq_plan.specs.declared.bases.Base.{Base}
@@ -195,6 +195,17 @@ module _ {R S : Type 0} (world : World R) (facts : RowFacts R) (table_of : R →
               pulled_left world facts (λ w. is_covered_pipe world w slots pipe) (kept_stream table_of shown pipe.plan old).0
               (kept_stream table_of shown pipe.plan new).0 more further pulled w (k.left w p);
         }
+
+    -- an item is taken, and what is asked for it is watched
+    pub took : (log more further : List Call) (old new : Base R S) (x : Value R) → Keeps log more old
+        → kept_stream table_of shown pipe.plan old ≡ in_front x (kept_stream table_of shown pipe.plan new)
+        → ((w : Watch R) (start : List Call) → is_covered_pipe world w slots pipe ≡ true → has_watched_rows w x ≡ true
+        → HasGrown world facts w start more → HasGrown world facts w start further) → Keeps log further new
+    took log more further old new x k is step =
+        let was = kept_stream table_of shown pipe.plan old in
+        went_on log more further old new k
+        (pulled_more world facts (λ w. is_covered_pipe world w slots pipe) was.0 was (kept_stream table_of shown pipe.plan new) more more further x
+        (pulled_none world facts (λ w. is_covered_pipe world w slots pipe) was.0 more) is step)
 
     -- the item that comes next passes
     pub next_passes : (log more : List Call) (old : Base R S) (o : Result (Value R) End) (v : Value R) (t : Stream (Value R)) → Keeps log more old

@@ -1,5 +1,5 @@
 -- Loops that pull items one by one.
-use Rattle.std.proofs.Common.{◌≡◌, ◌∷◌, ◌++◌, ◌<◌, List, [], ℕ, zero, suc, Bor, Option, Some, None, true, Result, Ok, Err, ap, ◌∙◌, sym, refl, subst, append_assoc, append-nil, length, arith}
+use Rattle.std.proofs.Common.{◌≡◌, ◌∷◌, ◌++◌, ◌<◌, List, [], ℕ, zero, suc, Bor, Option, Some, None, IfOk, true, Result, Ok, Err, ap, ◌∙◌, sym, refl, subst, append_assoc, append-nil, length, arith}
 use Rattle.std.proofs.lemmas.Option.{none-some, same_Some}
 use Rattle.lq_value.specs.declared.scalar.Scalar.{Scalar}
 use Rattle.lq_value.specs.declared.value.End.{End}
@@ -23,6 +23,7 @@ use Rattle.lq_plan.specs.declared.stages.Stage.TheVariants as stage
 use Rattle.lq_plan.proofs.PlanLaws.{planned_cell, rest_kept, row_here}
 use Rattle.lq_plan.proofs.PullLaws.{left_opened}
 use Rattle.lq_language.proofs.StreamLaws.{then_assoc}
+use Rattle.lq_pipe.specs.Steps.{GivesStep, Steps}
 
 -- what was made of the items before, with what comes of those that are left
 module _ {A B : Type 0} (f : A → Stream B) where
@@ -58,13 +59,13 @@ module _ {A B : Type 0} (f : A → Stream B) where
 
 -- the same of items that are kept as they are
 module _ {A : Type 0} where
-  drained_on : (old new all : Stream A) (x : A) (made more : List A) → old ≡ in_front x new → more ≡ made ++ x ∷ []
+  pub drained_on : (old new all : Stream A) (x : A) (made more : List A) → old ≡ in_front x new → more ≡ made ++ x ∷ []
       → then_ending made end.Done old ≡ all → then_ending more end.Done new ≡ all
   drained_on old new all x made more is more_is goes =
       ap (λ l. (l ++ new.0, new.1)) more_is ∙ ap (λ l. (l, new.1)) (append_assoc made (x ∷ []) new.0)
       ∙ ap (λ (s : Stream A). then_ending made end.Done s) (sym is) ∙ goes
 
-  drained_ended : (old all : Stream A) (made : List A) (e : End) → old ≡ ([], e) → then_ending made end.Done old ≡ all → (made, e) ≡ all
+  pub drained_ended : (old all : Stream A) (made : List A) (e : End) → old ≡ ([], e) → then_ending made end.Done old ≡ all → (made, e) ≡ all
   drained_ended old all made e is goes =
       ap (λ l. (l, e)) (sym (append-nil made)) ∙ ap (λ (s : Stream A). then_ending made end.Done s) (sym is) ∙ goes
 
@@ -136,7 +137,7 @@ module _ {R : Type 0} (table_of : R → ℕ) (shown : R → List Scalar) (world 
   abbrev pub comes : Value R → Stream (Value R)
   comes x = through_stage world slots pipe.stage (item_at world slots pipe.source.now x)
 
-  pulled : {S : Type 0} → (old new : Base R S) (x : Value R) → IsPlanned table_of shown world slots pipe.stage pipe.source.now pipe.plan
+  pub pulled : {S : Type 0} → (old new : Base R S) (x : Value R) → IsPlanned table_of shown world slots pipe.stage pipe.source.now pipe.plan
       → kept_stream table_of shown pipe.plan old ≡ in_front x (kept_stream table_of shown pipe.plan new)
       → items_left world slots pipe old ≡ then_stream (comes x) (items_left world slots pipe new)
   pulled old new x planned is =
@@ -171,15 +172,25 @@ module _ {R : Type 0} (table_of : R → ℕ) (shown : R → List Scalar) (world 
   next_ended start old e planned same is =
       sym same ∙ rest_kept table_of shown world slots pipe.stage pipe.source.now pipe.plan planned old ∙ ap (λ (s : Stream (Value R)). each comes s.0 s.1) is
 
+  -- what comes of an item settles the step
+  pub next_given : {S E : Type 0} → (start old new : Base R S) (x : Value R) (answer : Result (Result (Value R) End) E)
+      → IsPlanned table_of shown world slots pipe.stage pipe.source.now pipe.plan → items_left world slots pipe old ≡ items_left world slots pipe start
+      → kept_stream table_of shown pipe.plan old ≡ in_front x (kept_stream table_of shown pipe.plan new)
+      → IfOk answer (GivesStep (comes x)) → IfOk answer (λ step. Steps (items_left world slots pipe start) step (items_left world slots pipe new))
+  next_given start old new x (Ok (Ok v)) planned same is gives = next_item start old new x v planned same is (sym gives)
+  next_given start old new x (Ok (Err (end.Fault f))) planned same is gives = next_fault start old new x f planned same is (sym gives)
+  next_given start old new x (Ok (Err end.Done)) planned same is gives = absurd gives
+  next_given start old new x (Err e) planned same is gives = tt
+
   -- the cell that was planned is what the lambda gives of a row that passes
   pub row_selected : (body : Bor Form) (r : R) (s s' : Scalar) → pipe.stage ≡ stage.Select body → IsPlanned table_of shown world slots pipe.stage pipe.source.now pipe.plan
       → row_verdict table_of shown pipe.plan r ≡ Some true
-      → row_cell table_of shown pipe.plan r ≡ Some s → s' ≡ s → ◌≡◌ {A = Stream (Value R)} (value.Scalar s' ∷ [], end.Done) (last world slots pipe.stage (value.Row r))
+      → row_cell table_of shown pipe.plan r ≡ Some s → s' ≡ s → ◌≡◌ {A = Stream (Value R)} (last world slots pipe.stage (value.Row r)) (value.Scalar s' ∷ [], end.Done)
   row_selected body r s s' is planned passes cell same =
-      ap (λ (x : Scalar). (value.Scalar x ∷ [], end.Done)) same
+      ap (λ k. last world slots k (value.Row r)) is
       ∙ ap (λ (m : Result (Value R) Fault). then_stream (one m) ([], end.Done))
-      (sym (planned_cell table_of shown world slots body pipe.source.now pipe.plan r s (subst (λ k. IsPlanned table_of shown world slots k pipe.source.now pipe.plan) is planned) (row_here table_of shown pipe.plan r true passes) cell))
-      ∙ sym (ap (λ k. last world slots k (value.Row r)) is)
+      (planned_cell table_of shown world slots body pipe.source.now pipe.plan r s (subst (λ k. IsPlanned table_of shown world slots k pipe.source.now pipe.plan) is planned) (row_here table_of shown pipe.plan r true passes) cell)
+      ∙ ap (λ (x : Scalar). (value.Scalar x ∷ [], end.Done)) (sym same)
 
 pub ruleset next_steps = (next_item, next_dropped, next_fault, next_ended, fewer)
 
@@ -188,3 +199,5 @@ pub ruleset reads = (left_opened, reads_none, begins_read, read_on, read_ended, 
 pub ruleset expands = (left_opened, comes_begins, comes_on, comes_stopped, comes_ended)
 
 pub ruleset selects = (left_opened, selects_begin, selects_on, selects_stopped, selects_ended, fewer)
+
+pub ruleset row_gives = (row_selected)

@@ -1,5 +1,5 @@
--- How deep the forms of stages, pipes and lambdas are.
-use Rattle.std.proofs.Common.{◌≡◌, ◌∙◌, ℕ, Bor, Option, Some, None, max}
+-- How deep the forms of stages and pipes are.
+use Rattle.std.proofs.Common.{◌≡◌, ◌∙◌, ℕ, max}
 use Rattle.std.proofs.Math.Nat.{max-zero}
 use Rattle.lq_tree.specs.declared.tree.Form.{Form, size-Form}
 use Rattle.lq_plan.specs.declared.pipes.Pipe.{Pipe}
@@ -13,10 +13,6 @@ stage_size (stage.Select f) = size-Form f.now
 
 abbrev pub pipe_size : Pipe → ℕ
 pipe_size pipe = max (size-Form pipe.source.now) (stage_size pipe.stage)
-
-abbrev pub body_size : Option (Bor Form) → ℕ
-body_size (Some f) = size-Form f.now
-body_size None = 0
 
 pub plain_size : (pipe : Pipe) (f : Form) → pipe.stage ≡ stage.Plain → pipe.source.now ≡ f → pipe_size pipe ≡ size-Form f
 plain_size pipe f plain is = (λ i. max (size-Form (is i)) (stage_size (plain i))) ∙ max-zero (size-Form f)

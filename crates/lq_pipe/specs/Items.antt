@@ -1,12 +1,16 @@
 -- What comes of an item in a slot of its own.
-use Rattle.std.specs.Prelude.{List, Option, Some, None, Result, Ok}
+use Rattle.std.specs.Prelude.{◌≡◌, List, Option, Some, None, Result, Ok}
 use Rattle.std.specs.Borrow.{Bor}
+use Rattle.lq_value.specs.SameAndOrder.{same_values}
+use Rattle.lq_value.specs.declared.value.End.{End}
 use Rattle.lq_value.specs.declared.value.End.TheVariants as end
 use Rattle.lq_value.specs.declared.value.Fault.{Fault}
 use Rattle.lq_value.specs.declared.value.Value.{Value}
 use Rattle.lq_language.specs.Worlds.{World}
 use Rattle.lq_language.specs.OperandMeaning.{stream_of}
-use Rattle.lq_language.specs.Stream.{Stream, both, each, select_each, on_value, select_by}
+use Rattle.lq_language.specs.Stream.{Stream, both, each, groups_of, select_each, on_value, select_by}
+use Rattle.lq_operators.specs.Groups.{groups_in}
+use Rattle.lq_operators.specs.declared.groups.Grouping.{Grouping}
 use Rattle.lq_tree.specs.FormMeaning.{Slots, form_meaning, matched, with_item, with_items}
 use Rattle.lq_tree.specs.declared.tree.Form.{Form}
 use Rattle.lq_tree.specs.declared.tree.Joined.{Joined}
@@ -41,3 +45,7 @@ module _ {R : Type 0} (world : World R) (slots : Slots R) where
 
   abbrev pub stream_join : Joined Form → List (Value R × Value R) → Stream (Value R) → Stream (Value R)
   stream_join j qs s = each (item_join j qs) s.0 s.1
+
+-- the groups are those of pairs, as far as these were read, and this is how the pairs end
+abbrev pub AreGrouped : {R : Type 0} → Grouping R → End → Stream (Value R × Value R) → Type 0
+AreGrouped grouping e pairs = (groups_in grouping ≡ groups_of same_values pairs.0) × (e ≡ pairs.1)

@@ -8,6 +8,7 @@ use Rattle.lq_language.specs.Worlds.{World}
 use Rattle.lq_tree.specs.Watches.{Watch}
 use Rattle.lq_tree.specs.declared.tree.Form.{Form}
 use Rattle.lq_plan.specs.declared.bases.Base.{Base}
+use Rattle.lq_plan.specs.declared.lambdas.Lambda.{Lambda}
 use Rattle.lq_plan.specs.Plans as plans
 use Rattle.lq_plan.specs.Watching as watching
 use Rattle.lq_plan.specs.declared.pipes.Pipe.{Pipe}
@@ -27,6 +28,10 @@ module _ {R S H : Type 0} {t : Rows.Ghosts R} {r : Cells.Ghosts R} {s : Readers.
   abbrev pub IsPlanned : Slots R → Pipe → Type 0
   IsPlanned = plans.IsPlanned run.sources
 
+  -- a cell that a lambda is known to give of rows of a table in the next slot is what it gives of them
+  abbrev pub GivesCell : Slots R → Lambda → Type 0
+  GivesCell = plans.GivesCell run.sources
+
   -- what a plan says of rows in the first slot is what a condition means there
   abbrev pub PlansRows : Form → Plan → Type 0
   PlansRows = plans.PlansRows run.sources
@@ -38,7 +43,7 @@ module _ {R S H : Type 0} {t : Rows.Ghosts R} {r : Cells.Ghosts R} {s : Readers.
   abbrev pub HasTaken : Slots R → Pipe → Base R S → List Call → Base R S → List Call → Type 0
   HasTaken = watching.Pulled run.sources
 
-  -- a watch covers a form, what stands above its base, a stage, and the element of a group
+  -- a watch covers a form, what stands above its base, and a stage
   abbrev pub covers : Watch R → Form → Bool
   covers = watching.covers run.sources
 
@@ -47,6 +52,3 @@ module _ {R S H : Type 0} {t : Rows.Ghosts R} {r : Cells.Ghosts R} {s : Readers.
 
   abbrev pub covers_stage : Watch R → Stage → Bool
   covers_stage = watching.covers_stage run.sources
-
-  abbrev pub covers_element : Watch R → Option (Bor Form) → Bool
-  covers_element = watching.covers_element run.sources

@@ -2,14 +2,14 @@
 use crate::running::Running;
 use lq_grammar::SortKey;
 use lq_host::{Asks, Log};
-use lq_operators::{Matches, RunError};
-use lq_plan::{Pipe, Reads, Slots, Stage, TableRow, arrangements, sequences};
+use lq_operators::{Grouping, Matches, RunError};
+use lq_plan::{Lambda, Pipe, Reads, Slots, Stage, TableRow, arrangements, sequences};
 use lq_tree::{Form, Joined};
-use lq_value::{End, Fault, List, Scalar, Value};
+use lq_value::{End, Fault, List, Scalar, Value, copy_scalar};
 use std::alloc::AllocError;
 
 impl<'a, R: TableRow, S: Reads<R>, H: Asks> Running<'a, R, S, H> {
-    ghost use Rattle.std.specs.Prelude.{◌≡◌, IfOk, Ok, List, true};
+    ghost use Rattle.std.specs.Prelude.{◌≡◌, IfOk, Ok, List, None, Some, true};
     ghost use Rattle.lq_language.specs.Arrangement.{all_of};
     ghost use Rattle.lq_operators.specs.Matching.{pairs_of};
     ghost use Rattle.lq_operators.specs.Answers.{IsAnswer};
@@ -18,11 +18,11 @@ impl<'a, R: TableRow, S: Reads<R>, H: Asks> Running<'a, R, S, H> {
     ghost use Rattle.lq_plan.specs.Meanings.{Answers, items_meant, meant};
     ghost use Rattle.lq_plan.specs.Pipes.{all_items};
     ghost use Rattle.lq_plan.specs.Slots.{values_in};
-    ghost use Rattle.lq_pipe.specs.Items.{item_expansion, item_join, key_and_element, keys_and_elements, stream_expansion, stream_join};
+    ghost use Rattle.lq_pipe.specs.Items.{AreGrouped, item_expansion, item_join, key_and_element, keys_and_elements, stream_expansion, stream_join};
     ghost use Rattle.lq_host.specs.declared.call.Call.{Call};
     ghost use Rattle.lq_tree.specs.Watches.{Watch, are_covered_keys, has_watched_rows, have_watched_rows, is_covered_join};
     ghost use Rattle.lq_plan.specs.Watching.{matches_pass, watches};
-    ghost use Rattle.lq_pipe.specs.Runs.{IsPlanned, world, Grown, covers, covers_element, covers_stage};
+    ghost use Rattle.lq_pipe.specs.Runs.{GivesCell, IsPlanned, world, Grown, covers, covers_stage};
 
     /// What comes of each item and of each item of what it leads to.
     #[cycle(running)]
@@ -131,67 +131,113 @@ impl<'a, R: TableRow, S: Reads<R>, H: Asks> Running<'a, R, S, H> {
             → watches w slots.now ≡ true
             → Grown self.now w start log.old → Grown self.now w start log.new }
     {
-        let (pairs, end) = self.key_pairs(source, key, Some(element), slots, log)?;
-        Ok(sequences::groups(self.sources.alloc, pairs, end)?)
+        let pipe = self.sources.pipe_of(source, slots)?;
+        let key = self.sources.lambda(key, slots);
+        let element = self.sources.lambda(element, slots);
+        let (grouping, end) = self.grouped(&key, &element, &pipe, slots, log)?;
+        match end {
+            End::Done => {
+                let groups = grouping.into_groups(self.sources.alloc)?;
+                Ok(Value::Seq(groups, End::Done))
+            }
+            End::Fault(fault) => Ok(sequences::fault_sequence(self.sources.alloc, fault)),
+        }
     }
 
-    /// The key of an item, and then its element: what a lambda gives of it, or without one the item.
+    /// The items of a pipe in groups by their keys, as far as no fault is met, and how they end.
     #[cycle(running)]
-    fn key_pair(
+    fn grouped(
         &self,
-        key: &Form,
-        element: Option<&Form>,
+        key: &Lambda<'_>,
+        element: &Lambda<'_>,
+        pipe: &Pipe<'_>,
+        slots: &Slots<'_, R>,
+        log: &mut Log<H>,
+    ) -> Result<(Grouping<R>, End), AllocError>
+        requires planned { IsPlanned self.now slots.now pipe.now }
+        requires key { GivesCell self.now slots.now key.now }
+        requires element { GivesCell self.now slots.now element.now }
+        ensures meant { IfOk result (λ found. AreGrouped found.0 found.1
+            (keys_and_elements (world self.now) (values_in slots.now) key.now.body.now
+            (Some element.now.body)
+            (all_items (world self.now) (values_in slots.now) pipe.now))) }
+        ensures grows { (w : Watch R) (start : List Call) → covers self.now w pipe.now.source.now ≡ true
+            → covers_stage self.now w pipe.now.stage ≡ true
+            → covers self.now w key.now.body.now ≡ true
+            → covers self.now w element.now.body.now ≡ true
+            → watches w slots.now ≡ true
+            → Grown self.now w start log.old → Grown self.now w start log.new }
+    {
+        let alloc = self.sources.alloc;
+        let mut base = self.open(pipe.source, slots, log)?;
+        let mut grouping = Grouping::new(alloc, 0)?;
+        loop {
+            match self.next(pipe, &mut base, slots, log)? {
+                Ok(item) => match self.key_and_element(key, element, item, slots, log)? {
+                    Ok((key, element)) => grouping.add(alloc, key, element)?,
+                    Err(fault) => return Ok((grouping, End::Fault(fault))),
+                },
+                Err(end) => return Ok((grouping, end)),
+            }
+        }
+    }
+
+    /// The key of an item, and then its element.
+    #[cycle(running)]
+    fn key_and_element(
+        &self,
+        key: &Lambda<'_>,
+        element: &Lambda<'_>,
         item: Value<R>,
         slots: &Slots<'_, R>,
         log: &mut Log<H>,
     ) -> Result<Result<(Value<R>, Value<R>), Fault>, AllocError>
+        requires key { GivesCell self.now slots.now key.now }
+        requires element { GivesCell self.now slots.now element.now }
         ensures meant { IfOk result (λ pair. pair ≡ key_and_element (world self.now)
-            (values_in slots.now) key.now element.entry item) }
-        ensures grows { (w : Watch R) (start : List Call) → covers self.now w key.now ≡ true
-            → covers_element self.now w element.entry ≡ true
+            (values_in slots.now) key.now.body.now (Some element.now.body) item) }
+        ensures grows { (w : Watch R) (start : List Call)
+            → covers self.now w key.now.body.now ≡ true
+            → covers self.now w element.now.body.now ≡ true
             → watches w slots.now ≡ true
             → has_watched_rows w item ≡ true
             → Grown self.now w start log.old → Grown self.now w start log.new }
     {
-        match self.value_of_item(key, &item, slots, log)? {
-            Ok(key) => match element {
-                Some(body) => match self.value_of_item(body, &item, slots, log)? {
-                    Ok(element) => Ok(Ok((key, element))),
-                    Err(fault) => Ok(Err(fault)),
-                },
-                None => Ok(Ok((key, item))),
+        match self.value_by(key, &item, slots, log)? {
+            Ok(key) => match self.value_by(element, &item, slots, log)? {
+                Ok(element) => Ok(Ok((key, element))),
+                Err(fault) => Ok(Err(fault)),
             },
             Err(fault) => Ok(Err(fault)),
         }
     }
 
-    /// The keys of the items of a source with their elements, up to the first fault.
+    /// The items of the inner source of a join with their keys, up to the first fault.
     #[cycle(running)]
     #[tactic(auto, using(crate::proofs::PullLaws::selects))]
     fn key_pairs(
         &self,
         source: &Form,
         key: &Form,
-        element: Option<&Form>,
         slots: &Slots<'_, R>,
         log: &mut Log<H>,
     ) -> Result<(List<(Value<R>, Value<R>)>, End), AllocError>
         ensures meant { IfOk result (λ pairs.
-            pairs ≡ keys_and_elements (world self.now) (values_in slots.now) key.now element.entry
+            pairs ≡ keys_and_elements (world self.now) (values_in slots.now) key.now None
             (items_meant (world self.now) source.now slots.now)) }
         ensures grows { (w : Watch R) (start : List Call) → covers self.now w source.now ≡ true
             → covers self.now w key.now ≡ true
-            → covers_element self.now w element.entry ≡ true
             → watches w slots.now ≡ true
             → Grown self.now w start log.old → Grown self.now w start log.new }
     {
         let pipe = self.sources.pipe_of(source, slots)?;
+        let lambda = self.sources.lambda(key, slots);
         let mut base = self.open(pipe.source, slots, log)?;
         let mut pairs = List::new(self.sources.alloc);
         loop {
             match self.next(&pipe, &mut base, slots, log)? {
-                Ok(item) => match self.key_pair(key, element, item, slots, log)? {
-                    Ok(pair) => pairs.push(pair)?,
+                Ok(item) => match self.value_by(&lambda, &item, slots, log)? {
+                    Ok(key) => pairs.push((key, item))?,
                     Err(fault) => return Ok((pairs, End::Fault(fault))),
                 },
                 Err(end) => return Ok((pairs, end)),
@@ -216,13 +262,7 @@ impl<'a, R: TableRow, S: Reads<R>, H: Asks> Running<'a, R, S, H> {
             → watches w slots.now ≡ true
             → Grown self.now w start log.old → Grown self.now w start log.new }
     {
-        let (pairs, pairs_end) = self.key_pairs(
-            &joined.inner,
-            &joined.inner_key,
-            None,
-            slots,
-            log,
-        )?;
+        let (pairs, pairs_end) = self.key_pairs(&joined.inner, &joined.inner_key, slots, log)?;
         match pairs_end {
             End::Done => {
                 let matches = Matches::build(self.sources.alloc, pairs)?;
@@ -239,11 +279,14 @@ impl<'a, R: TableRow, S: Reads<R>, H: Asks> Running<'a, R, S, H> {
     fn join_item(
         &self,
         joined: &Joined<Form>,
+        outer_key: &Lambda<'_>,
         matches: &Matches<R>,
         item: &Value<R>,
         slots: &Slots<'_, R>,
         log: &mut Log<H>,
     ) -> Result<(List<Value<R>>, End), AllocError>
+        requires key { GivesCell self.now slots.now outer_key.now }
+        requires outer { outer_key.now.body.now ≡ joined.now.outer_key }
         ensures meant { IfOk result (λ s. s ≡ item_join (world self.now) (values_in slots.now) joined.now
             (pairs_of matches.now) item.now) }
         ensures grows { (w : Watch R) (start : List Call) → is_covered_join (world self.now) w joined.now ≡ true
@@ -252,7 +295,7 @@ impl<'a, R: TableRow, S: Reads<R>, H: Asks> Running<'a, R, S, H> {
             → has_watched_rows w item.now ≡ true
             → Grown self.now w start log.old → Grown self.now w start log.new }
     {
-        match self.value_of_item(&joined.outer_key, item, slots, log)? {
+        match self.value_by(outer_key, item, slots, log)? {
             Ok(key) => {
                 let inner = sequences::match_items(
                     self.sources.alloc,
@@ -291,11 +334,14 @@ impl<'a, R: TableRow, S: Reads<R>, H: Asks> Running<'a, R, S, H> {
             → Grown self.now w start log.old → Grown self.now w start log.new }
     {
         let mut base = self.open(pipe.source, slots, log)?;
+        let outer_key = self.sources.lambda(&joined.outer_key, slots);
         let mut values = List::new(self.sources.alloc);
         loop {
             match self.next(pipe, &mut base, slots, log)? {
                 Ok(item) => {
-                    let (further, ending) = self.join_item(joined, matches, &item, slots, log)?;
+                    let (further, ending) = self.join_item(
+                        joined, &outer_key, matches, &item, slots, log,
+                    )?;
                     values = sequences::append(values, further)?;
                     match ending {
                         End::Done => {}
@@ -377,11 +423,36 @@ impl<'a, R: TableRow, S: Reads<R>, H: Asks> Running<'a, R, S, H> {
             → have_watched_rows w items.now ≡ true
             → Grown self.now w start log.old → Grown self.now w start log.new }
     {
+        let lambda = self.sources.lambda(key, slots);
         let mut column = List::new(self.sources.alloc);
         for item in items {
-            let scalar = self.scalar(key, &(&*slots).with(&*item), log)?;
+            let scalar = self.key_of(&lambda, item, slots, log)?;
             column.push(scalar)?;
         }
         Ok(column)
+    }
+
+    /// A key of an item: where it is a cell, a copy of it as it stands.
+    #[cycle(running)]
+    fn key_of(
+        &self,
+        key: &Lambda<'_>,
+        item: &Value<R>,
+        slots: &Slots<'_, R>,
+        log: &mut Log<H>,
+    ) -> Result<Scalar, RunError>
+        requires { GivesCell self.now slots.now key.now }
+        ensures meant { Answers
+            (key_at (world self.now) (values_in slots.now) key.now.body.now item.now) result }
+        ensures grows { (w : Watch R) (start : List Call)
+            → covers self.now w key.now.body.now ≡ true
+            → watches w slots.now ≡ true
+            → has_watched_rows w item.now ≡ true
+            → Grown self.now w start log.old → Grown self.now w start log.new }
+    {
+        match key.cell(item) {
+            Some(cell) => Ok(copy_scalar(self.sources.alloc, cell)?),
+            None => self.scalar(key.body, &(&*slots).with(&*item), log),
+        }
     }
 }

@@ -15,6 +15,7 @@ mod pulling;
 mod pulls;
 mod rows;
 mod running;
+mod tallies;
 mod trees;
 
 pub use draining::drain;

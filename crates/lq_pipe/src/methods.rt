@@ -2,23 +2,24 @@
 use crate::running::Running;
 use lq_host::{Asks, Log};
 use lq_language::{Given, Simple};
-use lq_operators::{RunError, Tally, given, simple};
+use lq_operators::{Distinct, RunError, Tally, given, simple};
 use lq_plan::counts::{given_limit, simple_limit};
-use lq_plan::{Pipe, Reads, Slots, Stage, TableRow, parts, scalars, sequences, stage_of};
+use lq_plan::{Lambda, Pipe, Reads, Slots, Stage, TableRow, parts, scalars, sequences, stage_of};
 use lq_tree::Form;
-use lq_value::{End, Fault, List, Ty, Value, same};
+use lq_value::{End, Fault, List, Ty, Value, copy_scalar, same};
 use std::alloc::AllocError;
 
 impl<'a, R: TableRow, S: Reads<R>, H: Asks> Running<'a, R, S, H> {
     ghost use Rattle.std.specs.Prelude.{◌≡◌, IfOk, Ok, List, true};
     ghost use Rattle.lq_value.specs.SameAndOrder.{same_values};
+    ghost use Rattle.lq_value.specs.declared.ty.Ty.{Ty};
     ghost use Rattle.lq_value.specs.declared.value.End.TheVariants as end;
+    ghost use Rattle.lq_value.specs.declared.value.Value.{Value};
     ghost use Rattle.lq_value.specs.declared.value.Value.TheVariants as value;
-    ghost use Rattle.lq_language.specs.OperandMeaning.{as_value, sequence};
-    ghost use Rattle.lq_language.specs.Enumerable.{all, contains};
+    ghost use Rattle.lq_language.specs.OperandMeaning.{sequence};
+    ghost use Rattle.lq_language.specs.Enumerable.{all, contains, distinct};
     ghost use Rattle.lq_language.specs.Stream.{select_by};
     ghost use Rattle.lq_operators.specs.Answers.{IsAnswer};
-    ghost use Rattle.lq_operators.specs.Tallies.{tallied};
     ghost use Rattle.lq_language.specs.Meaning.{as_truth, given_meaning, simple_meaning};
     ghost use Rattle.lq_tree.specs.declared.tree.Form.TheVariants as form;
     ghost use Rattle.lq_plan.specs.Meanings.{holds_of, items_meant, meant, value_of_item};
@@ -28,7 +29,7 @@ impl<'a, R: TableRow, S: Reads<R>, H: Asks> Running<'a, R, S, H> {
     ghost use Rattle.lq_host.specs.declared.call.Call.{Call};
     ghost use Rattle.lq_tree.specs.Watches.{Watch, has_watched_rows, have_watched_rows};
     ghost use Rattle.lq_plan.specs.Watching.{watches};
-    ghost use Rattle.lq_pipe.specs.Runs.{IsPlanned, world, Grown, covers, covers_stage};
+    ghost use Rattle.lq_pipe.specs.Runs.{GivesCell, IsPlanned, world, Grown, covers, covers_stage};
 
     /// The sequence of what comes of a source's items at the stage after it.
     #[cycle(running)]
@@ -102,6 +103,9 @@ impl<'a, R: TableRow, S: Reads<R>, H: Asks> Running<'a, R, S, H> {
             → watches w slots.now ≡ true
             → Grown self.now w start log.old → Grown self.now w start log.new }
     {
+        if let Simple::Distinct = method {
+            return self.distinct(pipe, slots, log);
+        }
         match Tally::of(method) {
             Some(tally) => self.tally(tally, of, pipe, slots, log),
             None => {
@@ -111,32 +115,31 @@ impl<'a, R: TableRow, S: Reads<R>, H: Asks> Running<'a, R, S, H> {
         }
     }
 
-    /// The number that a tally comes to over the items of a pipe.
+    /// The distinct items of a pipe, each at its first appearance: one after another is looked for among those before it.
     #[cycle(running)]
     #[inline(never)]
-    #[tactic(auto, using(crate::proofs::CountLaws::tallies))]
-    fn tally(
+    fn distinct(
         &self,
-        tally: Tally,
-        of: &Ty,
         pipe: &Pipe<'_>,
         slots: &Slots<'_, R>,
         log: &mut Log<H>,
     ) -> Result<Value<R>, RunError>
         requires { IsPlanned self.now slots.now pipe.now }
-        ensures meant { IsAnswer (as_value (tallied of.now tally
-            (all_items (world self.now) (values_in slots.now) pipe.now))) result }
+        ensures meant { IsAnswer (Ok (sequence (distinct same_values
+            (all_items (world self.now) (values_in slots.now) pipe.now).0
+            (all_items (world self.now) (values_in slots.now) pipe.now).1))) result }
         ensures grows { (w : Watch R) (start : List Call) → covers self.now w pipe.now.source.now ≡ true
             → covers_stage self.now w pipe.now.stage ≡ true
             → watches w slots.now ≡ true
             → Grown self.now w start log.old → Grown self.now w start log.new }
     {
+        let alloc = self.sources.alloc;
         let mut base = self.open(pipe.source, slots, log)?;
-        let mut tally = tally;
+        let mut distinct = Distinct::new(alloc, 0)?;
         loop {
             match self.next(pipe, &mut base, slots, log)? {
-                Ok(item) => tally = tally.with(&item)?,
-                Err(end) => return Ok(Value::Scalar(tally.result(of, end)?)),
+                Ok(item) => distinct.add(alloc, item)?,
+                Err(end) => return Ok(Value::Seq(distinct.into_items(), end)),
             }
         }
     }
@@ -322,6 +325,31 @@ impl<'a, R: TableRow, S: Reads<R>, H: Asks> Running<'a, R, S, H> {
         match self.sources.value_in_place(&*body, &deeper) {
             Some(copy) => Ok(Ok(copy?)),
             None => sequences::value_or_fault(self.evaluate(body, &deeper, log)),
+        }
+    }
+
+    /// The same of a lambda: the cell that it is known to give is copied from where it stands.
+    #[cycle(running)]
+    #[inline(always)]
+    pub(crate) fn value_by(
+        &self,
+        lambda: &Lambda<'_>,
+        item: &Value<R>,
+        slots: &Slots<'_, R>,
+        log: &mut Log<H>,
+    ) -> Result<Result<Value<R>, Fault>, AllocError>
+        requires { GivesCell self.now slots.now lambda.now }
+        ensures meant { IfOk result (λ value.
+            value ≡ value_of_item (world self.now) lambda.now.body.now slots.now item.now) }
+        ensures grows { (w : Watch R) (start : List Call)
+            → covers self.now w lambda.now.body.now ≡ true
+            → watches w slots.now ≡ true
+            → has_watched_rows w item.now ≡ true
+            → Grown self.now w start log.old → Grown self.now w start log.new }
+    {
+        match lambda.cell(item) {
+            Some(cell) => Ok(Ok(Value::Scalar(copy_scalar(self.sources.alloc, cell)?))),
+            None => self.value_of_item(lambda.body, item, slots, log),
         }
     }
 

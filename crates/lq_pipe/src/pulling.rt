@@ -16,16 +16,16 @@ impl<'a, R: TableRow, S: Reads<R>, H: Asks> Running<'a, R, S, H> {
     ghost use Rattle.lq_plan.specs.Counts.{read_first};
     ghost use Rattle.lq_plan.specs.Meanings.{items_meant};
     ghost use Rattle.lq_plan.specs.Pipes.{all_items, items_left};
-    ghost use Rattle.lq_plan.specs.PlannedRows.{IsPulled, pulled_value, row_verdict};
+    ghost use Rattle.lq_plan.specs.PlannedRows.{row_verdict};
     ghost use Rattle.lq_plan.specs.Pulling.{base_stream, item_at, items_at, last, outcome_stream, through_select, through_stage};
     ghost use Rattle.lq_plan.specs.Slots.{values_in};
     ghost use Rattle.lq_host.specs.declared.call.Call.{Call};
     ghost use Rattle.lq_tree.specs.Watches.{Watch, has_watched_rows, have_watched_rows};
-    ghost use Rattle.lq_plan.specs.Watching.{is_covered_pipe, watches};
+    ghost use Rattle.lq_plan.specs.Watching.{watches};
     ghost use Rattle.lq_pipe.specs.Runs.{IsPlanned, world, Grown, HasTaken, covers, covers_above, covers_stage};
     ghost use Rattle.lq_plan.specs.Handing.{StaysOfRows, handed_out, rows_to_come};
     ghost use Rattle.lq_pipe.specs.Handing.{HandsAtMost, HandsUpTo};
-    ghost use Rattle.lq_pipe.specs.Steps.{Steps};
+    ghost use Rattle.lq_pipe.specs.Steps.{GivesStep, Steps};
 
     /// The items of a form, as a base of their own.
     #[cycle(running)]
@@ -107,7 +107,7 @@ impl<'a, R: TableRow, S: Reads<R>, H: Asks> Running<'a, R, S, H> {
     /// What an item of the base becomes at a source and the stage after it.
     #[cycle(running)]
     #[tactic(auto, using(lq_plan::proofs::PullLaws::bare_item))]
-    fn pass_through(
+    pub(crate) fn pass_through(
         &self,
         stage: &Stage<'_>,
         source: &Form,
@@ -188,59 +188,54 @@ impl<'a, R: TableRow, S: Reads<R>, H: Asks> Running<'a, R, S, H> {
     /// What comes of a row that passes the conditions above its table, at the stage of a pipe: a lambda
     /// gives the cell that was planned, if there is one.
     #[cycle(running)]
-    #[tactic(auto, using(crate::proofs::PullLaws::row_selected))]
+    #[tactic(auto, using(crate::proofs::PullLaws::row_gives))]
     fn pass_row(
         &self,
         pipe: &Pipe<'_>,
-        row: &R,
+        row: R,
         slots: &Slots<'_, R>,
         log: &mut Log<H>,
-    ) -> Result<Outcome<R>, AllocError>
+    ) -> Result<Result<Value<R>, End>, AllocError>
         requires planned { IsPlanned self.now slots.now pipe.now }
-        requires passes { row_verdict R.table_of R.shown pipe.now.plan row.now ≡ Some true }
-        ensures meant { IfOk result (λ outcome. outcome_stream outcome
-            ≡ last (world self.now) (values_in slots.now) pipe.now.stage (value.Row row.now)) }
+        requires passes { row_verdict R.table_of R.shown pipe.now.plan row ≡ Some true }
+        ensures meant { IfOk result (λ step. GivesStep
+            (last (world self.now) (values_in slots.now) pipe.now.stage (value.Row row)) step) }
         ensures grows { (w : Watch R) (start : List Call) → covers_stage self.now w pipe.now.stage ≡ true
             → watches w slots.now ≡ true
-            → w.row row.now ≡ true
+            → w.row row ≡ true
             → Grown self.now w start log.old → Grown self.now w start log.new }
     {
         match pipe.stage {
-            Stage::Plain => Ok(Outcome::Item(Value::Row(row.again()))),
-            Stage::Where(_) => Ok(Outcome::Item(Value::Row(row.again()))),
-            Stage::Select(body) => match pipe.plan.cell(row) {
-                Some(cell) => Ok(Outcome::Item(Value::Scalar(copy_scalar(
-                    self.sources.alloc,
-                    cell,
-                )?))),
-                None => self.pass_select(body, &Value::Row(row.again()), slots, log),
+            Stage::Plain => Ok(Ok(Value::Row(row))),
+            Stage::Where(_) => Ok(Ok(Value::Row(row))),
+            Stage::Select(body) => match pipe.plan.cell(&row) {
+                Some(cell) => Ok(Ok(Value::Scalar(copy_scalar(self.sources.alloc, cell)?))),
+                None => self.give(body, &Value::Row(row), slots, log),
             },
         }
     }
 
-    /// What comes of what was pulled by the plan of a pipe, at its stage.
+    /// What a lambda gives of an item, as the next item or how they end.
     #[cycle(running)]
-    #[tactic(auto, using(lq_plan::proofs::PlanLaws::row_says))]
-    fn pass_pulled(
+    #[inline(never)]
+    fn give(
         &self,
-        pipe: &Pipe<'_>,
-        pulled: Pulled<R>,
+        body: &Form,
+        item: &Value<R>,
         slots: &Slots<'_, R>,
         log: &mut Log<H>,
-    ) -> Result<Outcome<R>, AllocError>
-        requires planned { IsPlanned self.now slots.now pipe.now }
-        requires pulled { IsPulled R.table_of R.shown pipe.now.plan pulled }
-        ensures meant { IfOk result (λ outcome. outcome_stream outcome
-            ≡ through_stage (world self.now) (values_in slots.now) pipe.now.stage
-            (item_at (world self.now) (values_in slots.now) pipe.now.source.now
-            (pulled_value pulled))) }
-        ensures grows { (w : Watch R) (start : List Call) → is_covered_pipe (world self.now) w (values_in slots.now) pipe.now ≡ true
-            → has_watched_rows w (pulled_value pulled) ≡ true
+    ) -> Result<Result<Value<R>, End>, AllocError>
+        ensures meant { IfOk result (λ step. GivesStep
+            (through_select (world self.now) (values_in slots.now) body.now
+            (item.now ∷ [], end.Done)) step) }
+        ensures grows { (w : Watch R) (start : List Call) → covers self.now w body.now ≡ true
+            → watches w slots.now ≡ true
+            → has_watched_rows w item.now ≡ true
             → Grown self.now w start log.old → Grown self.now w start log.new }
     {
-        match pulled {
-            Pulled::Row(row) => self.pass_row(pipe, &row, slots, log),
-            Pulled::Item(item) => self.pass_through(&pipe.stage, pipe.source, item, slots, log),
+        match self.value_of_item(body, item, slots, log)? {
+            Ok(value) => Ok(Ok(value)),
+            Err(fault) => Ok(Err(End::Fault(fault))),
         }
     }
 
@@ -270,11 +265,14 @@ impl<'a, R: TableRow, S: Reads<R>, H: Asks> Running<'a, R, S, H> {
     {
         loop {
             match base.pull(&pipe.plan) {
-                Ok(pulled) => match self.pass_pulled(pipe, pulled, slots, log)? {
-                    Outcome::Item(item) => return Ok(Ok(item)),
-                    Outcome::Dropped => {}
-                    Outcome::Fault(fault) => return Ok(Err(End::Fault(fault))),
-                },
+                Ok(Pulled::Row(row)) => return self.pass_row(pipe, row, slots, log),
+                Ok(Pulled::Item(item)) => {
+                    match self.pass_through(&pipe.stage, pipe.source, item, slots, log)? {
+                        Outcome::Item(item) => return Ok(Ok(item)),
+                        Outcome::Dropped => {}
+                        Outcome::Fault(fault) => return Ok(Err(End::Fault(fault))),
+                    }
+                }
                 Err(end) => return Ok(Err(end)),
             }
         }

@@ -1,31 +1,32 @@
 -- What is prepared of a form says what the form means.
-use Rattle.std.proofs.Common.{◌≡◌, ◌∷◌, if◌then◌else◌, List, [], ℕ, Bool, true, false, Option, Some, None, Result, Ok, Err, IfSome, ap, ◌∙◌, sym, refl, subst, slice_get, length}
+use Rattle.std.proofs.Common.{◌≡◌, ◌∷◌, if◌then◌else◌, not, List, [], ℕ, Bool, true, false, Option, Some, None, Result, Ok, Err, IfSome, ap, ◌∙◌, sym, refl, subst, slice_get, length}
 use Rattle.std.specs.Prelude.{option_and_then}
 use Rattle.lq_value.specs.declared.scalar.Scalar.{Scalar}
+use Rattle.lq_value.specs.declared.scalar.Scalar.TheVariants as scalar
 use Rattle.lq_value.specs.declared.value.Fault.{Fault}
 use Rattle.lq_value.specs.declared.value.Fault.TheVariants as fault
 use Rattle.lq_value.specs.declared.value.Value.{Value, out-Value}
 use Rattle.lq_value.specs.declared.value.Value.TheVariants as value
 use Rattle.lq_grammar.specs.declared.syntax.Binary.{Binary}
 use Rattle.lq_host.specs.Predicates.{Predicate}
-use Rattle.lq_language.specs.Operations.{of_two, on_ok, operation_of, searched, truth, truth_of}
-use Rattle.lq_language.specs.OperandMeaning.{cell_value}
+use Rattle.lq_language.specs.Operations.{has_value, of_one, of_two, on_ok, operation_of, searched, truth, truth_of}
+use Rattle.lq_language.specs.OperandMeaning.{as_value, cell_value, on_scalar, scalar_of}
 use Rattle.lq_language.specs.Worlds.{World}
 use Rattle.lq_language.specs.declared.operation.Op.{Op}
 use Rattle.lq_language.specs.declared.operation.Op.TheVariants as op
-use Rattle.lq_condition.specs.Verdicts.{IsBoth, IsEither, IsSearch, IsSign, both_verdicts, either_verdict, search_verdict, sign_verdict, unless_fault, verdict}
+use Rattle.lq_condition.specs.Verdicts.{IsBoth, IsCells, IsEither, IsNot, IsSearch, IsSign, IsTruth, IsTurned, IsValue, both_verdicts, cells_verdict, either_verdict, not_verdict, search_verdict, sign_verdict, truth_verdict, unless_fault, value_verdict, verdict}
 use Rattle.lq_condition.specs.declared.condition.Condition.{Condition}
 use Rattle.lq_condition.specs.declared.condition.Condition.TheVariants as condition
-use Rattle.lq_condition.proofs.ConditionLaws.{verdict_silent}
+use Rattle.lq_condition.proofs.ConditionLaws.{verdict_constant, verdict_silent}
 use Rattle.lq_tree.specs.FormMeaning.{Slots, cell_in, form_meaning, if_there, name_of_column, with_item}
 use Rattle.lq_tree.specs.declared.tree.Form.{Form}
 use Rattle.lq_tree.specs.declared.tree.Form.TheVariants as form
 use Rattle.lq_plan.specs.Prepared.{Decides, IsCell, IsConstant}
-use Rattle.lq_plan.specs.Meanings.{truth_in}
+use Rattle.lq_plan.specs.Meanings.{scalar_in, truth_in}
 use Rattle.lq_plan.specs.Worlds.{HaveDistinctColumns, schemas_in, world_of}
 use Rattle.lq_plan.specs.declared.tables.TableRows.{TableRows}
 use Rattle.lq_plan.proofs.CellLemmas.{cell_found}
-use Rattle.lq_plan.proofs.FormLaws.{form_column, form_literal, form_slot}
+use Rattle.lq_plan.proofs.FormLaws.{form_column, form_literal, form_slot, form_unary}
 use Rattle.lq_plan.proofs.SlotLaws.{found_before, found_next}
 use Rattle.lq_plan.proofs.TruthLaws.{truth_binary, truth_both, truth_either, truth_two}
 
@@ -174,6 +175,135 @@ module _ {R : Type 0} (table_of : R → ℕ) (shown : R → List Scalar) (slots 
           (either_met (verdict ca (shown r)) (verdict cb (shown r)) _ _ _ (ha.at r here) (hb.at r here) (truth_either world a b (with_item world slots (value.Row r))));
     }
 
-pub ruleset decides_binary = (decides_sign, decides_search, decides_silent)
+    -- ---- other forms of operands
 
-pub ruleset decides_forms = (decides_both, decides_either, decides_silent)
+    -- the operator that a sign is
+    pub decides_operator : (sign : Binary) (o : Op) (a b : Form) (table : ℕ) (c : Condition) → o ≡ operation_of sign
+        → Decides table_of shown world slots table (form.Binary (operation_of sign) a b) c
+        → Decides table_of shown world slots table (form.Binary o a b) c
+    decides_operator sign o a b table c is = subst (λ p. Decides table_of shown world slots table (form.Binary p a b) c) (sym is)
+
+    turned_met : (sign turned : Binary) (a b : Form) (vs : Slots R) (found : Option Scalar) (s : Scalar) → world.unknown ≡ fault.NullReference → IsTurned sign turned
+        → IfSome found (λ x. form_meaning world b vs ≡ Ok (value.Scalar x)) → form_meaning world a vs ≡ Ok (value.Scalar s)
+        → Meets (sign_verdict turned found s) (truth_in world (form_meaning world (form.Binary (operation_of sign) a b) vs))
+    turned_met sign turned a b vs None s known is right left = tt
+    turned_met sign turned a b vs (Some x) s known is right left =
+        moved (sign_verdict sign (Some s) x) (sign_verdict turned (Some x) s) _ (sym (is.at s x))
+        (sign_met sign (operation_of sign) a b vs (Some s) x known refl left right)
+
+    pub decides_turned : (sign turned : Binary) (a b : Form) (table place : ℕ) (s : Scalar) (c : Condition) → world.unknown ≡ fault.NullReference → IsTurned sign turned
+        → IsCell table_of shown world slots table b place → IsConstant table_of shown world slots a s
+        → IsSign turned place s c
+        → Decides table_of shown world slots table (form.Binary (operation_of sign) a b) c
+    decides_turned sign turned a b table place s c known is cell constant decides = record {
+      at = λ r here.
+          moved (sign_verdict turned (slice_get (shown r) place) s) (verdict c (shown r)) _ (decides.at (shown r))
+          (turned_met sign turned a b (with_item world slots (value.Row r)) (slice_get (shown r) place) s known is (cell.at r here) (constant.at (value.Row r)));
+    }
+
+    cells_met : (sign : Binary) (a b : Form) (vs : Slots R) (found other : Option Scalar) → world.unknown ≡ fault.NullReference
+        → IfSome found (λ x. form_meaning world a vs ≡ Ok (value.Scalar x)) → IfSome other (λ x. form_meaning world b vs ≡ Ok (value.Scalar x))
+        → Meets (cells_verdict sign found other) (truth_in world (form_meaning world (form.Binary (operation_of sign) a b) vs))
+    cells_met sign a b vs found None known left right = tt
+    cells_met sign a b vs found (Some y) known left right = sign_met sign (operation_of sign) a b vs found y known refl left right
+
+    pub decides_cells : (sign : Binary) (a b : Form) (table place other : ℕ) (c : Condition) → world.unknown ≡ fault.NullReference
+        → IsCell table_of shown world slots table a place → IsCell table_of shown world slots table b other
+        → IsCells sign place other c
+        → Decides table_of shown world slots table (form.Binary (operation_of sign) a b) c
+    decides_cells sign a b table place other c known left right decides = record {
+      at = λ r here.
+          moved (cells_verdict sign (slice_get (shown r) place) (slice_get (shown r) other)) (verdict c (shown r)) _ (decides.at (shown r))
+          (cells_met sign a b (with_item world slots (value.Row r)) (slice_get (shown r) place) (slice_get (shown r) other) known (left.at r here) (right.at r here));
+    }
+
+    of_scalar : {B : Type 0} (s : Scalar) (next : Scalar → Result B Fault) → on_scalar world (Ok (value.Scalar s)) next ≡ next s
+    of_scalar s next = ap (λ layer. on_ok (scalar_of world layer) next) (value.outs-Scalar s)
+
+    truth_met : (f : Form) (vs : Slots R) (found : Option Scalar) → world.unknown ≡ fault.NullReference
+        → IfSome found (λ x. form_meaning world f vs ≡ Ok (value.Scalar x))
+        → Meets (truth_verdict found) (truth_in world (form_meaning world f vs))
+    truth_met f vs None known is = tt
+    truth_met f vs (Some x) known is =
+        of_result _ (truth_of fault.NullReference x) (ap (truth_in world) is ∙ of_scalar x (truth_of world.unknown) ∙ ap (λ u. truth_of u x) known)
+
+    pub decides_truth : (f : Form) (table place : ℕ) (c : Condition) → world.unknown ≡ fault.NullReference
+        → IsCell table_of shown world slots table f place → IsTruth place c
+        → Decides table_of shown world slots table f c
+    decides_truth f table place c known cell decides = record {
+      at = λ r here.
+          moved (truth_verdict (slice_get (shown r) place)) (verdict c (shown r)) _ (decides.at (shown r))
+          (truth_met f (with_item world slots (value.Row r)) (slice_get (shown r) place) known (cell.at r here));
+    }
+
+    pub decides_constant : (f : Form) (table : ℕ) (s : Scalar) (b : Bool) → s ≡ scalar.Bool b → IsConstant table_of shown world slots f s
+        → Decides table_of shown world slots table f (condition.Constant b)
+    decides_constant f table s b is constant = record {
+      at = λ r here.
+          moved (Some b) (verdict (condition.Constant b) (shown r)) _ (verdict_constant (shown r) b)
+          (ap (truth_in world) (constant.at (value.Row r)) ∙ of_scalar s (truth_of world.unknown) ∙ ap (truth_of world.unknown) is);
+    }
+
+    -- ---- operators with one operand
+
+    truth_given : (unknown : Fault) (r : Result Bool Fault) → on_ok (truth unknown r) (truth_of unknown) ≡ r
+    truth_given unknown (Ok b) = refl
+    truth_given unknown (Err f) = refl
+
+    truth_as_value : (found : Result Scalar Fault) → truth_in world (as_value found) ≡ on_ok found (truth_of world.unknown)
+    truth_as_value (Ok s) = of_scalar s (truth_of world.unknown)
+    truth_as_value (Err f) = refl
+
+    value_met : (a : Form) (vs : Slots R) (found : Option Scalar) → world.unknown ≡ fault.NullReference
+        → IfSome found (λ x. form_meaning world a vs ≡ Ok (value.Scalar x))
+        → Meets (value_verdict found) (truth_in world (form_meaning world (form.Unary op.HasValue a) vs))
+    value_met a vs None known is = tt
+    value_met a vs (Some x) known is =
+        of_result _ (has_value fault.NullReference x)
+        (ap (truth_in world)
+        (form_unary world op.HasValue a vs
+        ∙ ap (λ m. on_scalar world m (λ s. as_value (of_one world.unknown op.HasValue s))) is
+        ∙ of_scalar x (λ s. as_value (of_one world.unknown op.HasValue s)))
+        ∙ truth_as_value (of_one world.unknown op.HasValue x)
+        ∙ truth_given world.unknown (has_value world.unknown x)
+        ∙ ap (λ u. has_value u x) known)
+
+    pub decides_value : (a : Form) (table place : ℕ) (c : Condition) → world.unknown ≡ fault.NullReference
+        → IsCell table_of shown world slots table a place → IsValue place c
+        → Decides table_of shown world slots table (form.Unary op.HasValue a) c
+    decides_value a table place c known cell decides = record {
+      at = λ r here.
+          moved (value_verdict (slice_get (shown r) place)) (verdict c (shown r)) _ (decides.at (shown r))
+          (value_met a (with_item world slots (value.Row r)) (slice_get (shown r) place) known (cell.at r here));
+    }
+
+    pub decides_one : (o p : Op) (a : Form) (table : ℕ) (c : Condition) → o ≡ p → Decides table_of shown world slots table (form.Unary p a) c
+        → Decides table_of shown world slots table (form.Unary o a) c
+    decides_one o p a table c is = subst (λ q. Decides table_of shown world slots table (form.Unary q a) c) (sym is)
+
+    not_of : (r : Result Scalar Fault) → truth_in world (on_ok r (λ s. as_value (of_one world.unknown op.Not s)))
+        ≡ on_ok (on_ok r (truth_of world.unknown)) (λ b. Ok (not b))
+    not_of (Ok s) = truth_as_value (of_one world.unknown op.Not s) ∙ truth_given world.unknown (on_ok (truth_of world.unknown s) (λ b. Ok (not b)))
+    not_of (Err f) = refl
+
+    truth_not : (a : Form) (vs : Slots R) → truth_in world (form_meaning world (form.Unary op.Not a) vs)
+        ≡ on_ok (truth_in world (form_meaning world a vs)) (λ b. Ok (not b))
+    truth_not a vs = ap (truth_in world) (form_unary world op.Not a vs) ∙ not_of (scalar_in world (form_meaning world a vs))
+
+    not_met : (t : Option Bool) (ma m : Result Bool Fault) → Meets t ma → m ≡ on_ok ma (λ b. Ok (not b)) → Meets (not_verdict t) m
+    not_met None ma m h is = tt
+    not_met (Some b) ma m h is = is ∙ ap (λ (r : Result Bool Fault). on_ok r (λ x. Ok (not x))) h
+
+    pub decides_not : (o : Op) (a : Form) (table : ℕ) (ca c : Condition) → o ≡ op.Not → Decides table_of shown world slots table a ca → IsNot ca c
+        → Decides table_of shown world slots table (form.Unary o a) c
+    decides_not o a table ca c is ha decides = decides_one o op.Not a table c is (record {
+      at = λ r here.
+          moved (not_verdict (verdict ca (shown r))) (verdict c (shown r)) _ (decides.at (shown r))
+          (not_met (verdict ca (shown r)) _ _ (ha.at r here) (truth_not a (with_item world slots (value.Row r))));
+    })
+
+pub ruleset decides_signs = (decides_sign, decides_cells, decides_silent)
+
+pub ruleset decides_truths = (decides_truth, decides_constant, decides_silent)
+
+pub ruleset decides_unary = (decides_one, decides_not, decides_silent)

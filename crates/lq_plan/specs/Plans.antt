@@ -9,6 +9,7 @@ use Rattle.lq_tree.specs.declared.tree.Form.{Form}
 use Rattle.lq_plan.specs.Prepared as prepared
 use Rattle.lq_plan.specs.Slots.{values_in}
 use Rattle.lq_plan.specs.Worlds.{world_of}
+use Rattle.lq_plan.specs.declared.lambdas.Lambda.{Lambda}
 use Rattle.lq_plan.specs.declared.pipes.Pipe.{Pipe}
 use Rattle.lq_plan.specs.declared.plans.Plan.{Plan}
 use Rattle.lq_plan.specs.declared.rows.Rows as Readers
@@ -30,6 +31,10 @@ module _ {R S H : Type 0} {t : Rows.Ghosts R} {r : Cells.Ghosts R} {s : Readers.
     -- on each row of a table a form is the cell at this place, if there is one
     abbrev pub IsCell : ℕ → Form → ℕ → Type 0
     IsCell = prepared.IsCell t.table_of r.shown world (values_in slots)
+
+    -- where a lambda is known to give a cell of rows, it gives that cell
+    abbrev pub GivesCell : Lambda → Type 0
+    GivesCell = prepared.GivesCell t.table_of r.shown world (values_in slots)
 
     -- whatever stands in the next slot, a form is this scalar
     abbrev pub IsConstant : Form → Scalar → Type 0

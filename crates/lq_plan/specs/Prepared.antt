@@ -10,6 +10,7 @@ use Rattle.lq_tree.specs.FormMeaning.{Slots, form_meaning, with_item}
 use Rattle.lq_tree.specs.declared.tree.Form.{Form}
 use Rattle.lq_plan.specs.Pulling.{item_at, item_if, last_if, through_stage}
 use Rattle.lq_plan.specs.Meanings.{truth_in}
+use Rattle.lq_plan.specs.declared.lambdas.Lambda.{Lambda}
 use Rattle.lq_plan.specs.declared.plans.Plan.{Plan}
 use Rattle.lq_plan.specs.declared.stages.Stage.{Stage}
 use Rattle.lq_plan.specs.declared.stages.Stage.TheVariants as stage
@@ -23,6 +24,10 @@ module _ {R : Type 0} (table_of : R → ℕ) (shown : R → List Scalar) (world 
   -- whatever stands in the last slot, a form is this scalar
   pub record IsConstant (f : Form) (s : Scalar) : Type 0 where
     pub at : (v : Value R) → form_meaning world f (with_item world slots v) ≡ Ok (value.Scalar s)
+
+  -- where a lambda is known to give a cell, its body is that cell
+  abbrev pub GivesCell : Lambda → Type 0
+  GivesCell lambda = IfSome lambda.place (λ place. IsCell lambda.table lambda.body.now place)
 
   -- what a condition says of a row of the table is what a form means there
   pub record Decides (table : ℕ) (f : Form) (c : Condition) : Type 0 where

@@ -45,7 +45,7 @@ impl<R: TableRow, S: Reads<R>> Left<R, S> {
     }
 
     /// The next row of which a plan doesn't say that it doesn't pass, and whether the plan says that it passes; counted with those before it.
-    #[inline]
+    #[inline(always)]
     fn next_passing(&mut self, plan: &Plan, handed: &mut u64) -> Option<(R, bool)>
         ensures { Finds (row_verdict R.table_of R.shown plan.now) self.old handed.old result
             self.new handed.new }
@@ -155,7 +155,7 @@ impl<R: TableRow, S: Reads<R>> Base<R, S> {
 
     /// The next row that passes by a plan, or the next item of which the plan says nothing, or how the
     /// items end. Rows of which the plan says that they don't pass are left out. Takes no memory.
-    #[inline]
+    #[inline(always)]
     #[tactic(auto, using(crate::proofs::BaseLemmas::pulls))]
     pub fn pull(&mut self, plan: &Plan) -> Result<Pulled<R>, End>
         ensures item { IfOk result (λ pulled. kept_stream R.table_of R.shown plan.now self.old

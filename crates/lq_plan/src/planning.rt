@@ -12,7 +12,8 @@ use crate::slots::Slots;
 use crate::sources::Sources;
 use crate::stages::Stage;
 use crate::tables::{TableRow, column_name};
-use lq_condition::Condition;
+use lq_condition::{Condition, turned_sign};
+use lq_grammar::Binary;
 use lq_host::Asks;
 use lq_language::Op;
 use lq_tree::Form;
@@ -47,6 +48,8 @@ fn search_of(op: Op) -> Option<Op>
 
 impl<'a, R: TableRow, S: Reads<R>, H: Asks> Sources<'a, R, S, H> {
     ghost use Rattle.std.specs.Prelude.{◌≡◌, IfOk, IfSome};
+    ghost use Rattle.lq_language.specs.Operations.{operation_of};
+    ghost use Rattle.lq_language.specs.declared.operation.Op.TheVariants as op;
     ghost use Rattle.lq_tree.specs.declared.tree.Form.TheVariants as form;
     ghost use Rattle.lq_plan.specs.Meanings.{items_meant};
     ghost use Rattle.lq_plan.specs.Pipes.{all_items};
@@ -57,7 +60,12 @@ impl<'a, R: TableRow, S: Reads<R>, H: Asks> Sources<'a, R, S, H> {
 
     /// The place of the cell that a form is of a row in the next slot, where it is one.
     #[tactic(auto, using(crate::proofs::PreparedLemmas::own_cell_at))]
-    fn cell_place(&self, of: &Form, table: TableNumber, slots: &Slots<'_, R>) -> Option<usize>
+    pub(crate) fn cell_place(
+        &self,
+        of: &Form,
+        table: TableNumber,
+        slots: &Slots<'_, R>,
+    ) -> Option<usize>
         ensures { IfSome result (λ place.
             IsCell self.now slots.now table of.now place) }
     {
@@ -112,11 +120,60 @@ impl<'a, R: TableRow, S: Reads<R>, H: Asks> Sources<'a, R, S, H> {
         }
     }
 
-    /// An operator between two operands, where the left one is a cell of the row, and the right one a
+    /// A sign between a scalar that is the same for all rows and a cell of the row.
+    #[tactic(auto, using(crate::proofs::PreparedLemmas::decides_turned, crate::proofs::PreparedLemmas::decides_silent))]
+    fn turned_condition(
+        &self,
+        sign: Binary,
+        left: &Form,
+        right: &Form,
+        table: TableNumber,
+        slots: &Slots<'_, R>,
+    ) -> Result<Condition, AllocError>
+        ensures { IfOk result (λ c. Decides self.now slots.now table
+            (form.Binary (operation_of sign) left.now right.now) c) }
+    {
+        let Some(place) = self.cell_place(right, table, slots) else {
+            return Ok(Condition::Silent);
+        };
+        let Some(scalar) = self.constant(left, slots) else {
+            return Ok(Condition::Silent);
+        };
+        match turned_sign(sign) {
+            Some(turned) => Condition::sign(self.alloc, turned, place, scalar),
+            None => Ok(Condition::Silent),
+        }
+    }
+
+    /// A sign between two operands, one of which is a cell of the row, and the other one too, or a
     /// scalar that is the same for all rows.
-    #[inline(never)]
-    #[tactic(auto, using(crate::proofs::PreparedLemmas::decides_binary))]
-    fn operator_condition(
+    #[tactic(auto, using(crate::proofs::PreparedLemmas::decides_signs))]
+    fn sign_condition(
+        &self,
+        sign: Binary,
+        left: &Form,
+        right: &Form,
+        table: TableNumber,
+        slots: &Slots<'_, R>,
+    ) -> Result<Condition, AllocError>
+        ensures { IfOk result (λ c. Decides self.now slots.now table
+            (form.Binary (operation_of sign) left.now right.now) c) }
+    {
+        let Some(place) = self.cell_place(left, table, slots) else {
+            return self.turned_condition(sign, left, right, table, slots);
+        };
+        if let Some(other) = self.cell_place(right, table, slots) {
+            return Ok(Condition::cells(sign, place, other));
+        }
+        match self.constant(right, slots) {
+            Some(scalar) => Condition::sign(self.alloc, sign, place, scalar),
+            None => Ok(Condition::Silent),
+        }
+    }
+
+    /// A method that looks for a text, which is the same for all rows, in a cell of the row.
+    #[tactic(auto, using(crate::proofs::PreparedLemmas::decides_search, crate::proofs::PreparedLemmas::decides_silent))]
+    fn search_condition(
         &self,
         op: Op,
         left: &Form,
@@ -133,12 +190,54 @@ impl<'a, R: TableRow, S: Reads<R>, H: Asks> Sources<'a, R, S, H> {
         let Some(scalar) = self.constant(right, slots) else {
             return Ok(Condition::Silent);
         };
-        if let Some(sign) = scalars::sign_of(op) {
-            return Condition::sign(self.alloc, sign, place, scalar);
-        }
         match search_of(op) {
             Some(op) => Condition::search(self.alloc, op, place, scalar),
             None => Ok(Condition::Silent),
+        }
+    }
+
+    /// An operator between two operands.
+    #[inline(never)]
+    #[tactic(auto, using(crate::proofs::PreparedLemmas::decides_operator))]
+    fn operator_condition(
+        &self,
+        op: Op,
+        left: &Form,
+        right: &Form,
+        table: TableNumber,
+        slots: &Slots<'_, R>,
+    ) -> Result<Condition, AllocError>
+        ensures { IfOk result (λ c.
+            Decides self.now slots.now table (form.Binary op left.now right.now) c) }
+    {
+        match scalars::sign_of(op) {
+            Some(sign) => self.sign_condition(sign, left, right, table, slots),
+            None => self.search_condition(op, left, right, table, slots),
+        }
+    }
+
+    /// Whether a cell of the row has a value.
+    #[tactic(auto, using(crate::proofs::PreparedLemmas::decides_value, crate::proofs::PreparedLemmas::decides_silent))]
+    fn value_condition(&self, of: &Form, table: TableNumber, slots: &Slots<'_, R>) -> Condition
+        ensures { Decides self.now slots.now table (form.Unary op.HasValue of.now) result }
+    {
+        match self.cell_place(of, table, slots) {
+            Some(place) => Condition::has_value(place),
+            None => Condition::Silent,
+        }
+    }
+
+    /// The truth value that a form is: a cell of the row, or the same for all rows.
+    #[tactic(auto, using(crate::proofs::PreparedLemmas::decides_truths))]
+    fn truth_condition(&self, of: &Form, table: TableNumber, slots: &Slots<'_, R>) -> Condition
+        ensures { Decides self.now slots.now table of.now result }
+    {
+        if let Some(place) = self.cell_place(of, table, slots) {
+            return Condition::truth(place);
+        }
+        match self.constant(of, slots) {
+            Some(Scalar::Bool(truth)) => Condition::Constant(*truth),
+            _ => Condition::Silent,
         }
     }
 
@@ -159,8 +258,33 @@ impl<'a, R: TableRow, S: Reads<R>, H: Asks> Sources<'a, R, S, H> {
             Form::Binary(op, left, right) => {
                 self.operator_condition(*op, left.get(), right.get(), table, slots)
             }
+            Form::Unary(op, operand) => self.unary_condition(*op, operand.get(), table, slots),
             Form::And(left, right) => self.both_condition(left.get(), right.get(), table, slots),
             Form::Or(left, right) => self.either_condition(left.get(), right.get(), table, slots),
+            _ => Ok(self.truth_condition(form, table, slots)),
+        }
+    }
+
+    /// An operator or member with one operand.
+    #[cycle(preparing)]
+    #[inline(never)]
+    #[tactic(auto, using(crate::proofs::PreparedLemmas::decides_unary))]
+    fn unary_condition(
+        &self,
+        op: Op,
+        operand: &Form,
+        table: TableNumber,
+        slots: &Slots<'_, R>,
+    ) -> Result<Condition, AllocError>
+        ensures { IfOk result (λ c.
+            Decides self.now slots.now table (form.Unary op operand.now) c) }
+    {
+        match op {
+            Op::Not => {
+                let condition = self.condition(operand, table, slots)?;
+                Condition::not(self.alloc, condition)
+            }
+            Op::HasValue => Ok(self.value_condition(operand, table, slots)),
             _ => Ok(Condition::Silent),
         }
     }

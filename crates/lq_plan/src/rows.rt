@@ -65,7 +65,7 @@ impl<'a> Rows<VisibleRow<'a>> for Scan<'a, '_> {
 }
 
 impl<'a> Reads<VisibleRow<'a>> for Scan<'a, '_> {
-    #[inline]
+    #[inline(always)]
     #[tactic(auto, using(crate::proofs::FindingLemmas::found))]
     fn next_passing(&mut self, plan: &Plan, handed: &mut u64) -> Option<(VisibleRow<'a>, bool)> {
         if self.table() == plan.table {

@@ -12,7 +12,7 @@ pub(crate) struct Admission<'a> {
 }
 
 impl<'a> Admission<'a> {
-    ghost use Rattle.std.specs.Prelude.{◌≡◌, ◌&&◌, ◌||◌, false, true, not, IfOk, List, ℕ};
+    ghost use Rattle.std.specs.Prelude.{◌≡◌, ◌&&◌, ◌||◌, false, true, not, IfOk, IfSome, List, ℕ};
     ghost use Rattle.std.specs.Option.{option_copied};
     ghost use Rattle.lq_value.specs.declared.scalar.Scalar.{Scalar};
     ghost use Rattle.lq_policy.specs.Guards.{decides_on};
@@ -52,6 +52,18 @@ impl<'a> Admission<'a> {
             self.permissive.push(rule)?;
         }
         Ok(())
+    }
+
+    /// Whether the rules admit the row, where each that is asked compares a number.
+    #[inline(always)]
+    pub(crate) fn verdict(&self, asked: RowAndUser<'_>) -> Option<bool>
+        ensures { IfSome result (λ truth.
+            admits_by asked.entry.cells.now asked.entry.user.now self.now ≡ truth) }
+    {
+        match asked.verdict_of_any(self.permissive.as_slice()) {
+            Some(true) => asked.verdict_of_all(self.restrictive.as_slice()),
+            said => said,
+        }
     }
 
     /// Whether some permissive rule is true on the row.

@@ -10,7 +10,7 @@ pub(crate) struct RowAndUser<'a> {
 }
 
 impl RowAndUser<'_> {
-    ghost use Rattle.std.specs.Prelude.{◌≡◌};
+    ghost use Rattle.std.specs.Prelude.{◌≡◌, IfSome};
     ghost use Rattle.std.specs.List.{list_all, list_any};
     ghost use Rattle.std.specs.Option.{option_copied};
     ghost use Rattle.lq_policy.specs.Guards.{decides_on, rules_of};
@@ -54,5 +54,52 @@ impl RowAndUser<'_> {
             left = others;
         }
         true
+    }
+
+    /// Whether there is a rule that is true on the row, where no more is asked than a number.
+    #[inline(always)]
+    fn verdict_of(self, rule: Option<&PreparedRule>) -> Option<bool>
+        ensures { IfSome result (λ truth.
+            decides_on self.entry.cells.now self.entry.user.now (option_copied rule.entry)
+            ≡ truth) }
+    {
+        match rule {
+            Some(rule) => rule.verdict(self.cells),
+            None => Some(false),
+        }
+    }
+
+    /// Whether one of the rules is true on the row, where each that is asked compares a number.
+    #[inline(always)]
+    pub(crate) fn verdict_of_any(self, rules: &[Option<&PreparedRule>]) -> Option<bool>
+        ensures { IfSome result (λ truth.
+            list_any (decides_on self.entry.cells.now self.entry.user.now) (rules_of rules.now)
+            ≡ truth) }
+    {
+        let mut left = rules;
+        while let [rule, others @ ..] = left {
+            match self.verdict_of(*rule) {
+                Some(false) => left = others,
+                said => return said,
+            }
+        }
+        Some(false)
+    }
+
+    /// Whether each of the rules is true on the row, where each that is asked compares a number.
+    #[inline(always)]
+    pub(crate) fn verdict_of_all(self, rules: &[Option<&PreparedRule>]) -> Option<bool>
+        ensures { IfSome result (λ truth.
+            list_all (decides_on self.entry.cells.now self.entry.user.now) (rules_of rules.now)
+            ≡ truth) }
+    {
+        let mut left = rules;
+        while let [rule, others @ ..] = left {
+            match self.verdict_of(*rule) {
+                Some(true) => left = others,
+                said => return said,
+            }
+        }
+        Some(true)
     }
 }

@@ -32,12 +32,31 @@ pub struct RowRules<'a> {
 }
 
 impl Ruled<'_> {
-    ghost use Rattle.std.specs.Prelude.{◌≡◌};
+    ghost use Rattle.std.specs.Prelude.{◌≡◌, IfSome};
     ghost use Rattle.lq_policy.specs.RowRules.{rules_admit};
 
-    /// Whether the rules admit the row.
+    /// Whether the rules admit the row, where each that is asked compares a number.
+    #[inline(always)]
+    fn verdict(&self, cells: &[Scalar]) -> Option<bool>
+        ensures { IfSome result (λ truth. rules_admit self.now cells.now ≡ truth) }
+    {
+        let asked = RowAndUser {
+            user: self.user,
+            cells,
+        };
+        let mut left = self.admissions.as_slice();
+        while let [rules, others @ ..] = left {
+            match rules.verdict(asked) {
+                Some(true) => left = others,
+                said => return said,
+            }
+        }
+        Some(true)
+    }
+
+    /// Whether the rules admit the row, whatever they are.
     #[inline(never)]
-    fn is_admitted(&self, cells: &[Scalar]) -> bool
+    fn is_admitted_by_each(&self, cells: &[Scalar]) -> bool
         ensures { result ≡ rules_admit self.now cells.now }
     {
         let asked = RowAndUser {
@@ -47,6 +66,17 @@ impl Ruled<'_> {
         self.admissions
             .iter()
             .all(|rules| rules.is_admitted_by_rules(asked))
+    }
+
+    /// Whether the rules admit the row.
+    #[inline(never)]
+    fn is_admitted(&self, cells: &[Scalar]) -> bool
+        ensures { result ≡ rules_admit self.now cells.now }
+    {
+        match self.verdict(cells) {
+            Some(truth) => truth,
+            None => self.is_admitted_by_each(cells),
+        }
     }
 }
 

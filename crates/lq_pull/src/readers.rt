@@ -34,6 +34,7 @@ impl<'a> Rows<VisibleRow<'a>> for Reader<'a, '_> {
 }
 
 impl<'a> Reads<VisibleRow<'a>> for Reader<'a, '_> {
+    #[inline(always)]
     fn next_passing(&mut self, plan: &Plan, handed: &mut u64) -> Option<(VisibleRow<'a>, bool)> {
         match self {
             Reader::Scan(scan) => scan.next_passing(plan, handed),

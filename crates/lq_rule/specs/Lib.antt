@@ -1,3 +1,4 @@
 pub mod Deciding
+pub mod Ranges
 pub mod RowMeaning
 pub mod Standing

@@ -1,13 +1,15 @@
-use Rattle.std.proofs.Common.{◌≡◌, [], None, IfErr, IfOk, Ok, Err, ap, refl, rules, subst, sym, true, ◌∙◌}
+use Rattle.std.proofs.Common.{◌≡◌, [], None, Some, IfErr, IfOk, Ok, Err, ap, refl, rules, subst, sym, true, ◌∙◌}
 use Rattle.lq_value.specs.SameAndOrder.{same_values}
 use Rattle.lq_grammar.specs.declared.syntax.Field.{Field}
 use Rattle.lq_grammar.specs.declared.syntax.SortKey.{SortKey}
 use Rattle.lq_operators.specs.Answers.{IsAnswer}
 use Rattle.lq_operators.specs.Matching.{pairs_of}
+use Rattle.lq_operators.specs.Tallies.{tallied}
 use Rattle.lq_language.specs.Arrangement.{all_of}
 use Rattle.lq_language.specs.Enumerable.{in_front}
+use Rattle.lq_language.specs.Stream.{Stream, both, one, then_stream}
 use Rattle.lq_language.specs.Meaning.{simple_meaning}
-use Rattle.lq_language.specs.OperandMeaning.{sequence}
+use Rattle.lq_language.specs.OperandMeaning.{as_value, sequence}
 use Rattle.lq_tree.specs.FormMeaning.{form_meaning}
 use Rattle.lq_tree.specs.Watches.{are_covered_fields, are_covered_keys, has_watched_rows, have_watched_rows, is_covered, is_covered_join}
 use Rattle.lq_tree.specs.declared.tree.Form.{Form}
@@ -18,27 +20,34 @@ use Rattle.lq_plan.specs.Arrangements.{column_of, columns_of, key_at}
 use Rattle.lq_plan.specs.Meanings.{Answers, holds_of, items_meant, value_of_item, scalar_in, truth_in}
 use Rattle.lq_plan.specs.Pipes.{items_left}
 use Rattle.lq_plan.specs.PlannedRows.{IsPulled, kept_stream, pulled_value}
-use Rattle.lq_plan.specs.Pulling.{base_stream, item_at, outcome_stream}
+use Rattle.lq_plan.specs.Pulling.{base_stream, item_at, outcome_stream, through_select, through_stage}
 use Rattle.lq_plan.specs.Slots.{values_in}
-use Rattle.lq_plan.specs.Watching.{facts, is_covered_element, is_covered_pipe, is_covered_stage, matches_pass}
+use Rattle.lq_plan.specs.Watching.{facts, is_covered_pipe, is_covered_stage, matches_pass}
 use Rattle.lq_plan.proofs.PlanLaws.{row_says}
 use Rattle.lq_plan.proofs.PullLaws.{left_opened, passes_stage, stage_items, table_opened}
 use Rattle.lq_plan.proofs.WatchLaws.{slots_pass, source_covered, stage_covered}
 use Rattle.lq_tree.proofs.CoveredLaws.{covered_all_body, covered_all_source, covered_and_left, covered_and_right, covered_binary_left, covered_binary_right, covered_coalesce_left, covered_coalesce_right, covered_column, covered_conditional_condition, covered_conditional_first, covered_conditional_second, covered_first, covered_given_argument, covered_given_source, covered_group_by_element, covered_group_by_key, covered_group_by_source, covered_host, covered_is_null, covered_join_parts, covered_join_source, covered_key, covered_member, covered_or_left, covered_or_right, covered_order_keys, covered_order_source, covered_pair_first, covered_pair_second, covered_record, covered_second, covered_select_body, covered_select_many_inner, covered_select_many_result, covered_select_many_source, covered_select_source, covered_sequence, covered_simple, covered_unary, covered_where_body, covered_where_source, host_passes, join_inner, join_inner_key, join_outer_key, join_result}
 use Rattle.lq_plan.specs.Handing.{HandsOut, handed_out, rows_to_come}
-use Rattle.lq_pipe.proofs.HandingLemmas.{at_most, at_most_end, hands_end, hands_fault, hands_item, passes_dropped, passes_none}
-use Rattle.lq_pipe.specs.Items.{item_expansion, item_join, key_and_element}
+use Rattle.lq_pipe.proofs.HandingLemmas.{at_most, at_most_end, hands_end, hands_fault, hands_given, hands_item, passes_dropped, passes_none}
+use Rattle.lq_operators.specs.Firsts.{firsts_in}
+use Rattle.lq_operators.specs.Groups.{groups_in}
+use Rattle.lq_operators.proofs.NumberLaws.{scalar_on}
+use Rattle.lq_plan.specs.declared.stages.Stage.TheVariants as of_stage
+use Rattle.lq_pipe.specs.Items.{AreGrouped, item_expansion, item_join, key_and_element, keys_and_elements}
 use Rattle.lq_pipe.specs.Runs.{world}
-use Rattle.lq_pipe.specs.Steps.{Steps}
+use Rattle.lq_pipe.specs.Steps.{GivesStep, Steps}
 use Rattle.lq_pipe.proofs.AnswerLemmas.{all_answer, given_answer, members_goes, record_ended, record_stopped, select_answer, where_answer}
-use Rattle.lq_pipe.proofs.CountLaws.{all_begins, contains_begins, contains_on, given_read, simple_read, tally_begins, tally_on}
-use Rattle.lq_pipe.proofs.ItemLemmas.{expansion_is, group_by_answer, join_answer, join_stops, joined_met, matched_is, select_many_answer}
-use Rattle.lq_pipe.proofs.KeyLemmas.{all_goes, all_stops, counted_answer, key_answer, order_by_done, order_by_stops}
-use Rattle.lq_pipe.proofs.LogLemmas.{Covers, above_source, above_stage, all_on, all_there, asked, covered_as, covers_pipe, items_read, matched_pass, next_passes, opened, pairs_match, passed_item, source_of, stage_as, stage_over, went_on}
-use Rattle.lq_pipe.proofs.PullLaws.{begins_read, comes, comes_begins, comes_on, next_dropped, next_ended, next_fault, next_item, read_ended, read_on, selects_begin, selects_on}
+use Rattle.lq_pipe.proofs.CountLaws.{Tallies, all_begins, cell_of_row, contains_begins, contains_on, given_read, simple_read, staged_ends, staged_goes, tally_begins, tally_on, tally_over}
+use Rattle.lq_pipe.proofs.GroupLemmas.{firsts_begin, firsts_ended, firsts_on, grouped_begins, grouped_ended, grouped_on, grouped_stopped}
+use Rattle.lq_pipe.proofs.ItemLemmas.{expansion_is, group_by_done, group_by_stops, join_answer, join_stops, joined_met, joined_unmet, matched_is, select_many_answer}
+use Rattle.lq_pipe.proofs.KeyLemmas.{all_goes, all_stops, counted_answer, key_answer, key_by, key_cell, order_by_done, order_by_stops}
+use Rattle.lq_pipe.proofs.LogLemmas.{Covers, above_source, above_stage, all_on, all_there, asked, covered_as, covers_pipe, items_read, matched_pass, next_passes, opened, pairs_match, passed_item, source_of, stage_as, stage_over, took, went_on}
+use Rattle.lq_pipe.proofs.PullLaws.{begins_read, comes, comes_begins, comes_on, fewer, next_dropped, next_ended, next_fault, next_given, next_item, pulled, read_ended, read_on, selects_begin, selects_on, selects_stopped}
 use Rattle.lq_pipe.proofs.StreamLemmas.{select_goes, select_stops}
 use Rattle.lq_value.specs.declared.value.End.TheVariants as end
+use Rattle.lq_value.specs.declared.value.Value.{Value}
 use Rattle.lq_value.specs.declared.value.Value.TheVariants as value
+use Rattle.lq_plan.specs.declared.bases.Pulled.TheVariants as of_pulled
 use Rattle.lq_tree.specs.declared.tree.Form.TheVariants as form
 use Rattle.lq_pipe.proofs.running.Running.+running.Goals as goal
 
@@ -76,11 +85,312 @@ select_all-returns-in-Err-clause-meant g t c =
     select_stops (value_of_item (world c.args.self.now) c.args.body.now c.args.slots.now) c.args.items.now end.Done _ c.loop-item.values _ _ _
     c.item-item.is c.loop-item-test.true (sym c.in-Err.is ∙ c.in_ok-value.ensures.meant) c.loop-item.invariant.meant
 
+pub value_by-returns-in_ok-copy_scalar-in-Some-clause-meant : goal.value_by-returns-in_ok-copy_scalar-in-Some-clause-meant
+value_by-returns-in_ok-copy_scalar-in-Some-clause-meant g t c =
+    sym (c.in-Some.ensures (world c.args.self.now) (values_in c.args.slots.now) c.requires ∙ ap (λ s. Ok (value.Scalar s)) (sym c.in_ok-copy_scalar-in-Some.ensures))
+
+pub tally_by-returns-in-Some-clause-meant : goal.tally_by-returns-in-Some-clause-meant
+tally_by-returns-in-Some-clause-meant g t c =
+    λ ty rest.
+    ap (λ (s : Stream (Value _)). tallied ty c.args.tally (then_stream s rest)) (ap (λ m. then_stream (one m) ([], end.Done)) (c.in-Some.ensures (world c.args.self.now) (values_in c.args.slots.now) c.requires))
+    ∙ scalar_on c.args.tally _ _ c.with_scalar.ensures ty rest
+
+pub tally_lambda-loop-item-preserved : goal.tally_lambda-loop-item-preserved
+tally_lambda-loop-item-preserved g t c =
+    record {
+      meant = staged_goes (world c.args.self.now) (values_in c.args.slots.now) (of_stage.Select c.args.lambda.now.body) c.args.of.now c.loop-item.tally _ (Ok c.in-Ok.next) _ c.args.items.now _ c.args.end _ c.item-item.is c.loop-item-test.true c.in_ok-next.ensures.meant c.in-Ok.is c.loop-item.invariant.meant;
+      grows = λ w start h s a gr. c.tally_by.ensures.grows w start h s (all_there (has_watched_rows w) _ _ _ a c.item-item.is c.loop-item-test.true) (c.loop-item.invariant.grows w start h s a gr);
+    }
+
+pub tally_lambda-returns-in-Err-clause-meant : goal.tally_lambda-returns-in-Err-clause-meant
+tally_lambda-returns-in-Err-clause-meant g t c =
+    ap as_value (sym (staged_goes (world c.args.self.now) (values_in c.args.slots.now) (of_stage.Select c.args.lambda.now.body) c.args.of.now c.loop-item.tally _ (Err c.in-Err.fault) _ c.args.items.now _ c.args.end _ c.item-item.is c.loop-item-test.true c.in_ok-next.ensures.meant c.in-Err.is c.loop-item.invariant.meant))
+
+pub tally_lambda-returns-clause-meant : goal.tally_lambda-returns-clause-meant
+tally_lambda-returns-clause-meant g t c =
+    subst (λ m. IsAnswer (as_value m) c.answer.result)
+    (staged_ends (world c.args.self.now) (values_in c.args.slots.now) (of_stage.Select c.args.lambda.now.body) c.args.of.now c.loop-item.tally c.args.items.now _ c.args.end _ c.loop-item-test.false c.loop-item.invariant.meant) c.answer.ensures
+
+pub tally_lambda-returns-in-Err-clause-grows : goal.tally_lambda-returns-in-Err-clause-grows
+tally_lambda-returns-in-Err-clause-grows g t c =
+    λ w start h s a gr.
+    c.tally_by.ensures.grows w start h s (all_there (has_watched_rows w) _ _ _ a c.item-item.is c.loop-item-test.true) (c.loop-item.invariant.grows w start h s a gr)
+
+pub tally_lambda-returns-in_err-next-clause-grows : goal.tally_lambda-returns-in_err-next-clause-grows
+tally_lambda-returns-in_err-next-clause-grows g t c =
+    λ w start h s a gr.
+    c.tally_by.ensures.grows w start h s (all_there (has_watched_rows w) _ _ _ a c.item-item.is c.loop-item-test.true) (c.loop-item.invariant.grows w start h s a gr)
+
+pub tally_lambda-returns-clause-grows : goal.tally_lambda-returns-clause-grows
+tally_lambda-returns-clause-grows g t c =
+    λ w start h s a gr.
+    c.loop-item.invariant.grows w start h s a gr
+
+pub tally_items-returns-in-Select-clause-meant : goal.tally_items-returns-in-Select-clause-meant
+tally_items-returns-in-Select-clause-meant g t c =
+    subst (λ st. IsAnswer (as_value (tallied c.args.of.now c.args.tally (through_stage (world c.args.self.now) (values_in c.args.slots.now) st (c.args.items.now, c.args.end)))) c.tally_lambda.result) (sym c.in-Select.is)
+    (subst (λ f. IsAnswer (as_value (tallied c.args.of.now c.args.tally (through_select (world c.args.self.now) (values_in c.args.slots.now) f (c.args.items.now, c.args.end)))) c.tally_lambda.result) c.lambda-lambda.ensures.body c.tally_lambda.ensures.meant)
+
+pub tally_items-returns-in-Select-clause-grows : goal.tally_items-returns-in-Select-clause-grows
+tally_items-returns-in-Select-clause-grows g t c =
+    λ w start h s a gr.
+    c.tally_lambda.ensures.grows w start (covered_as (world c.args.self.now) w _ _ c.lambda-lambda.ensures.body (subst (λ st. is_covered_stage (world c.args.self.now) w st ≡ true) c.in-Select.is h)) s a gr
+
+pub key_of-returns-in_ok-copy_scalar-in-Some-clause-meant : goal.key_of-returns-in_ok-copy_scalar-in-Some-clause-meant
+key_of-returns-in_ok-copy_scalar-in-Some-clause-meant g t c =
+    key_cell (world c.args.self.now) (values_in c.args.slots.now) c.args.item.now c.args.key.now.body.now _ _ (c.in-Some.ensures (world c.args.self.now) (values_in c.args.slots.now) c.requires) c.in_ok-copy_scalar-in-Some.ensures
+
+pub key_of-returns-in-None-clause-meant : goal.key_of-returns-in-None-clause-meant
+key_of-returns-in-None-clause-meant g t c =
+    key_answer (world c.args.self.now) (values_in c.args.slots.now) _ _ c.args.key.now.body.now c.scalar.result c.with.ensures c.scalar.ensures.meant
+
+pub key_of-returns-in-None-clause-grows : goal.key_of-returns-in-None-clause-grows
+key_of-returns-in-None-clause-grows g t c =
+    λ w start h s i gr.
+    c.scalar.ensures.grows w start h (slot_more w (values_in c.args.slots.now) _ _ c.with.ensures s i) gr
+
+pub key_column-returns-in_err-scalar-clause-meant : goal.key_column-returns-in_err-scalar-clause-meant
+key_column-returns-in_err-scalar-clause-meant g t c =
+    let stops = all_stops (key_at (world c.args.self.now) (values_in c.args.slots.now) c.args.key.now) c.args.items.now _ c.loop-item.column _ _
+    c.item-item.is c.loop-item-test.true c.loop-item.invariant.meant c.in_err-scalar.field-0.0
+    (key_by (world c.args.self.now) (values_in c.args.slots.now) _ _ c.args.key.now (Err c.in_err-scalar.field-0.0) c.lambda-lambda.ensures.body c.in_err-scalar.ensures.meant) in
+    let same : c.from_residual.result ≡ Err c.in_err-scalar.field-0.0 = search rules in
+    subst (λ r. Answers (all_of (key_at (world c.args.self.now) (values_in c.args.slots.now) c.args.key.now) c.args.items.now) r) (sym same) stops
+
+pub key_column-returns-in_err-scalar-clause-grows : goal.key_column-returns-in_err-scalar-clause-grows
+key_column-returns-in_err-scalar-clause-grows g t c =
+    λ w start h s a gr.
+    c.key_of.ensures.grows w start (covered_as (world c.args.self.now) w _ _ c.lambda-lambda.ensures.body h) s (all_there (has_watched_rows w) _ _ _ a c.item-item.is c.loop-item-test.true) (c.loop-item.invariant.grows w start h s a gr)
+
+pub key_column-returns-in_err-push-clause-grows : goal.key_column-returns-in_err-push-clause-grows
+key_column-returns-in_err-push-clause-grows g t c =
+    λ w start h s a gr.
+    c.key_of.ensures.grows w start (covered_as (world c.args.self.now) w _ _ c.lambda-lambda.ensures.body h) s (all_there (has_watched_rows w) _ _ _ a c.item-item.is c.loop-item-test.true) (c.loop-item.invariant.grows w start h s a gr)
+
+pub key_column-returns-clause-grows : goal.key_column-returns-clause-grows
+key_column-returns-clause-grows g t c =
+    λ w start h s a gr.
+    c.loop-item.invariant.grows w start h s a gr
+
+pub key_column-loop-item-preserved : goal.key_column-loop-item-preserved
+key_column-loop-item-preserved g t c =
+    record {
+      meant = all_goes (key_at (world c.args.self.now) (values_in c.args.slots.now) c.args.key.now) c.args.items.now _ c.loop-item.column _ _ _ _
+          c.item-item.is c.loop-item-test.true
+          (key_by (world c.args.self.now) (values_in c.args.slots.now) _ _ c.args.key.now (Ok c.in_ok-scalar.scalar) c.lambda-lambda.ensures.body c.in_ok-scalar.ensures.meant)
+          c.in_ok-push.ensures.ok c.loop-item.invariant.meant;
+      grows = λ w start h s a gr. c.key_of.ensures.grows w start (covered_as (world c.args.self.now) w _ _ c.lambda-lambda.ensures.body h) s (all_there (has_watched_rows w) _ _ _ a c.item-item.is c.loop-item-test.true) (c.loop-item.invariant.grows w start h s a gr);
+    }
+
+pub grouped-loop-grouping-init : goal.grouped-loop-grouping-init
+grouped-loop-grouping-init g t c =
+    record {
+      meant = grouped_begins (key_and_element (world c.args.self.now) (values_in c.args.slots.now) c.args.key.now.body.now (Some c.args.element.now.body)) _ _ _ c.in_ok-grouping.ensures (left_opened (world c.args.self.now) (values_in c.args.slots.now) _ _ c.in_ok-base.base c.in_ok-base.ensures.meant);
+      log = opened (world c.args.self.now) (facts c.args.self.now.sources) g.R.TableRow.table_of g.R.RowRef.shown (values_in c.args.slots.now) c.args.pipe.now (λ w. Covers (world c.args.self.now) (values_in c.args.slots.now) c.args.pipe.now w × (is_covered (world c.args.self.now) w c.args.key.now.body.now ≡ true) × (is_covered (world c.args.self.now) w c.args.element.now.body.now ≡ true)) _ _ c.in_ok-base.base (λ w start p gr. c.open.ensures.grows w start p.0.source_in p.0.slots_in gr) (λ w p. c.in_ok-base.ensures.from w p.0.source_in p.0.slots_in);
+    }
+
+pub grouped-returns-in_err-item-clause-grows : goal.grouped-returns-in_err-item-clause-grows
+grouped-returns-in_err-item-clause-grows g t c =
+    λ w start a b hk he s gr.
+    (went_on (world c.args.self.now) (facts c.args.self.now.sources) g.R.TableRow.table_of g.R.RowRef.shown (values_in c.args.slots.now) c.args.pipe.now (λ w. Covers (world c.args.self.now) (values_in c.args.slots.now) c.args.pipe.now w × (is_covered (world c.args.self.now) w c.args.key.now.body.now ≡ true) × (is_covered (world c.args.self.now) w c.args.element.now.body.now ≡ true)) (λ w p. p.0) _ _ _ c.loop-grouping.base c.next.new.base c.loop-grouping.invariant.log c.next.ensures.pulled).grows w start ((covers_pipe (world c.args.self.now) (values_in c.args.slots.now) c.args.pipe.now w a b s), hk, he) gr
+
+pub grouped-returns-in_err-key-in-Ok-clause-grows : goal.grouped-returns-in_err-key-in-Ok-clause-grows
+grouped-returns-in_err-key-in-Ok-clause-grows g t c =
+    λ w start a b hk he s gr.
+    (asked (world c.args.self.now) (facts c.args.self.now.sources) g.R.TableRow.table_of g.R.RowRef.shown (values_in c.args.slots.now) c.args.pipe.now (λ w. Covers (world c.args.self.now) (values_in c.args.slots.now) c.args.pipe.now w × (is_covered (world c.args.self.now) w c.args.key.now.body.now ≡ true) × (is_covered (world c.args.self.now) w c.args.element.now.body.now ≡ true)) _ _ _ _ (went_on (world c.args.self.now) (facts c.args.self.now.sources) g.R.TableRow.table_of g.R.RowRef.shown (values_in c.args.slots.now) c.args.pipe.now (λ w. Covers (world c.args.self.now) (values_in c.args.slots.now) c.args.pipe.now w × (is_covered (world c.args.self.now) w c.args.key.now.body.now ≡ true) × (is_covered (world c.args.self.now) w c.args.element.now.body.now ≡ true)) (λ w p. p.0) _ _ _ c.loop-grouping.base c.next.new.base c.loop-grouping.invariant.log c.next.ensures.pulled)
+    (λ w start p gr. c.key_and_element.ensures.grows w start p.1 p.2 p.0.slots_in (next_passes (world c.args.self.now) (facts c.args.self.now.sources) g.R.TableRow.table_of g.R.RowRef.shown (values_in c.args.slots.now) c.args.pipe.now (λ w. Covers (world c.args.self.now) (values_in c.args.slots.now) c.args.pipe.now w × (is_covered (world c.args.self.now) w c.args.key.now.body.now ≡ true) × (is_covered (world c.args.self.now) w c.args.element.now.body.now ≡ true)) (λ w p. p.0) _ _ c.loop-grouping.base _ c.in-Ok.item (items_left (world c.args.self.now) (values_in c.args.slots.now) c.args.pipe.now c.next.new.base) c.loop-grouping.invariant.log c.requires.planned c.in-Ok.is c.in_ok-item.ensures.meant w p) gr)).grows w start ((covers_pipe (world c.args.self.now) (values_in c.args.slots.now) c.args.pipe.now w a b s), hk, he) gr
+
+pub grouped-returns-in_err-add-in-Ok-2-clause-grows : goal.grouped-returns-in_err-add-in-Ok-2-clause-grows
+grouped-returns-in_err-add-in-Ok-2-clause-grows g t c =
+    λ w start a b hk he s gr.
+    (asked (world c.args.self.now) (facts c.args.self.now.sources) g.R.TableRow.table_of g.R.RowRef.shown (values_in c.args.slots.now) c.args.pipe.now (λ w. Covers (world c.args.self.now) (values_in c.args.slots.now) c.args.pipe.now w × (is_covered (world c.args.self.now) w c.args.key.now.body.now ≡ true) × (is_covered (world c.args.self.now) w c.args.element.now.body.now ≡ true)) _ _ _ _ (went_on (world c.args.self.now) (facts c.args.self.now.sources) g.R.TableRow.table_of g.R.RowRef.shown (values_in c.args.slots.now) c.args.pipe.now (λ w. Covers (world c.args.self.now) (values_in c.args.slots.now) c.args.pipe.now w × (is_covered (world c.args.self.now) w c.args.key.now.body.now ≡ true) × (is_covered (world c.args.self.now) w c.args.element.now.body.now ≡ true)) (λ w p. p.0) _ _ _ c.loop-grouping.base c.next.new.base c.loop-grouping.invariant.log c.next.ensures.pulled)
+    (λ w start p gr. c.key_and_element.ensures.grows w start p.1 p.2 p.0.slots_in (next_passes (world c.args.self.now) (facts c.args.self.now.sources) g.R.TableRow.table_of g.R.RowRef.shown (values_in c.args.slots.now) c.args.pipe.now (λ w. Covers (world c.args.self.now) (values_in c.args.slots.now) c.args.pipe.now w × (is_covered (world c.args.self.now) w c.args.key.now.body.now ≡ true) × (is_covered (world c.args.self.now) w c.args.element.now.body.now ≡ true)) (λ w p. p.0) _ _ c.loop-grouping.base _ c.in-Ok.item (items_left (world c.args.self.now) (values_in c.args.slots.now) c.args.pipe.now c.next.new.base) c.loop-grouping.invariant.log c.requires.planned c.in-Ok.is c.in_ok-item.ensures.meant w p) gr)).grows w start ((covers_pipe (world c.args.self.now) (values_in c.args.slots.now) c.args.pipe.now w a b s), hk, he) gr
+
+pub grouped-returns-in-Err-2-clause-grows : goal.grouped-returns-in-Err-2-clause-grows
+grouped-returns-in-Err-2-clause-grows g t c =
+    λ w start a b hk he s gr.
+    (asked (world c.args.self.now) (facts c.args.self.now.sources) g.R.TableRow.table_of g.R.RowRef.shown (values_in c.args.slots.now) c.args.pipe.now (λ w. Covers (world c.args.self.now) (values_in c.args.slots.now) c.args.pipe.now w × (is_covered (world c.args.self.now) w c.args.key.now.body.now ≡ true) × (is_covered (world c.args.self.now) w c.args.element.now.body.now ≡ true)) _ _ _ _ (went_on (world c.args.self.now) (facts c.args.self.now.sources) g.R.TableRow.table_of g.R.RowRef.shown (values_in c.args.slots.now) c.args.pipe.now (λ w. Covers (world c.args.self.now) (values_in c.args.slots.now) c.args.pipe.now w × (is_covered (world c.args.self.now) w c.args.key.now.body.now ≡ true) × (is_covered (world c.args.self.now) w c.args.element.now.body.now ≡ true)) (λ w p. p.0) _ _ _ c.loop-grouping.base c.next.new.base c.loop-grouping.invariant.log c.next.ensures.pulled)
+    (λ w start p gr. c.key_and_element.ensures.grows w start p.1 p.2 p.0.slots_in (next_passes (world c.args.self.now) (facts c.args.self.now.sources) g.R.TableRow.table_of g.R.RowRef.shown (values_in c.args.slots.now) c.args.pipe.now (λ w. Covers (world c.args.self.now) (values_in c.args.slots.now) c.args.pipe.now w × (is_covered (world c.args.self.now) w c.args.key.now.body.now ≡ true) × (is_covered (world c.args.self.now) w c.args.element.now.body.now ≡ true)) (λ w p. p.0) _ _ c.loop-grouping.base _ c.in-Ok.item (items_left (world c.args.self.now) (values_in c.args.slots.now) c.args.pipe.now c.next.new.base) c.loop-grouping.invariant.log c.requires.planned c.in-Ok.is c.in_ok-item.ensures.meant w p) gr)).grows w start ((covers_pipe (world c.args.self.now) (values_in c.args.slots.now) c.args.pipe.now w a b s), hk, he) gr
+
+pub grouped-returns-in-Err-clause-grows : goal.grouped-returns-in-Err-clause-grows
+grouped-returns-in-Err-clause-grows g t c =
+    λ w start a b hk he s gr.
+    (went_on (world c.args.self.now) (facts c.args.self.now.sources) g.R.TableRow.table_of g.R.RowRef.shown (values_in c.args.slots.now) c.args.pipe.now (λ w. Covers (world c.args.self.now) (values_in c.args.slots.now) c.args.pipe.now w × (is_covered (world c.args.self.now) w c.args.key.now.body.now ≡ true) × (is_covered (world c.args.self.now) w c.args.element.now.body.now ≡ true)) (λ w p. p.0) _ _ _ c.loop-grouping.base c.next.new.base c.loop-grouping.invariant.log c.next.ensures.pulled).grows w start ((covers_pipe (world c.args.self.now) (values_in c.args.slots.now) c.args.pipe.now w a b s), hk, he) gr
+
+pub grouped-loop-grouping-preserved : goal.grouped-loop-grouping-preserved
+grouped-loop-grouping-preserved g t c =
+    record {
+      meant = grouped_on (key_and_element (world c.args.self.now) (values_in c.args.slots.now) c.args.key.now.body.now (Some c.args.element.now.body)) (items_left (world c.args.self.now) (values_in c.args.slots.now) c.args.pipe.now c.loop-grouping.base) (items_left (world c.args.self.now) (values_in c.args.slots.now) c.args.pipe.now c.next.new.base) c.in-Ok.item c.in-Ok-2.key c.in-Ok-2.element _ (groups_in c.loop-grouping.grouping) _ (subst (λ s. Steps (items_left (world c.args.self.now) (values_in c.args.slots.now) c.args.pipe.now c.loop-grouping.base) s (items_left (world c.args.self.now) (values_in c.args.slots.now) c.args.pipe.now c.next.new.base)) c.in-Ok.is c.in_ok-item.ensures.meant)
+          (sym c.in-Ok-2.is ∙ c.in_ok-key-in-Ok.ensures.meant) c.in_ok-add-in-Ok-2.ensures c.loop-grouping.invariant.meant;
+      log = (asked (world c.args.self.now) (facts c.args.self.now.sources) g.R.TableRow.table_of g.R.RowRef.shown (values_in c.args.slots.now) c.args.pipe.now (λ w. Covers (world c.args.self.now) (values_in c.args.slots.now) c.args.pipe.now w × (is_covered (world c.args.self.now) w c.args.key.now.body.now ≡ true) × (is_covered (world c.args.self.now) w c.args.element.now.body.now ≡ true)) _ _ _ _ (went_on (world c.args.self.now) (facts c.args.self.now.sources) g.R.TableRow.table_of g.R.RowRef.shown (values_in c.args.slots.now) c.args.pipe.now (λ w. Covers (world c.args.self.now) (values_in c.args.slots.now) c.args.pipe.now w × (is_covered (world c.args.self.now) w c.args.key.now.body.now ≡ true) × (is_covered (world c.args.self.now) w c.args.element.now.body.now ≡ true)) (λ w p. p.0) _ _ _ c.loop-grouping.base c.next.new.base c.loop-grouping.invariant.log c.next.ensures.pulled)
+          (λ w start p gr. c.key_and_element.ensures.grows w start p.1 p.2 p.0.slots_in (next_passes (world c.args.self.now) (facts c.args.self.now.sources) g.R.TableRow.table_of g.R.RowRef.shown (values_in c.args.slots.now) c.args.pipe.now (λ w. Covers (world c.args.self.now) (values_in c.args.slots.now) c.args.pipe.now w × (is_covered (world c.args.self.now) w c.args.key.now.body.now ≡ true) × (is_covered (world c.args.self.now) w c.args.element.now.body.now ≡ true)) (λ w p. p.0) _ _ c.loop-grouping.base _ c.in-Ok.item (items_left (world c.args.self.now) (values_in c.args.slots.now) c.args.pipe.now c.next.new.base) c.loop-grouping.invariant.log c.requires.planned c.in-Ok.is c.in_ok-item.ensures.meant w p) gr));
+    }
+
+pub grouped-loop-grouping-smaller : goal.grouped-loop-grouping-smaller
+grouped-loop-grouping-smaller g t c =
+    fewer (items_left (world c.args.self.now) (values_in c.args.slots.now) c.args.pipe.now c.loop-grouping.base) (items_left (world c.args.self.now) (values_in c.args.slots.now) c.args.pipe.now c.next.new.base) c.in-Ok.item (subst (λ s. Steps (items_left (world c.args.self.now) (values_in c.args.slots.now) c.args.pipe.now c.loop-grouping.base) s (items_left (world c.args.self.now) (values_in c.args.slots.now) c.args.pipe.now c.next.new.base)) c.in-Ok.is c.in_ok-item.ensures.meant)
+
+pub grouped-returns-in-Err-2-clause-meant : goal.grouped-returns-in-Err-2-clause-meant
+grouped-returns-in-Err-2-clause-meant g t c =
+    grouped_stopped (key_and_element (world c.args.self.now) (values_in c.args.slots.now) c.args.key.now.body.now (Some c.args.element.now.body)) (items_left (world c.args.self.now) (values_in c.args.slots.now) c.args.pipe.now c.loop-grouping.base) (items_left (world c.args.self.now) (values_in c.args.slots.now) c.args.pipe.now c.next.new.base) c.in-Ok.item _ _ _ (subst (λ s. Steps (items_left (world c.args.self.now) (values_in c.args.slots.now) c.args.pipe.now c.loop-grouping.base) s (items_left (world c.args.self.now) (values_in c.args.slots.now) c.args.pipe.now c.next.new.base)) c.in-Ok.is c.in_ok-item.ensures.meant) (sym c.in-Err-2.is ∙ c.in_ok-key-in-Ok.ensures.meant) c.loop-grouping.invariant.meant
+
+pub grouped-returns-in-Err-clause-meant : goal.grouped-returns-in-Err-clause-meant
+grouped-returns-in-Err-clause-meant g t c =
+    grouped_ended (key_and_element (world c.args.self.now) (values_in c.args.slots.now) c.args.key.now.body.now (Some c.args.element.now.body)) (items_left (world c.args.self.now) (values_in c.args.slots.now) c.args.pipe.now c.loop-grouping.base) c.in-Err.end _ _ (subst (λ s. Steps (items_left (world c.args.self.now) (values_in c.args.slots.now) c.args.pipe.now c.loop-grouping.base) s (items_left (world c.args.self.now) (values_in c.args.slots.now) c.args.pipe.now c.next.new.base)) c.in-Err.is c.in_ok-item.ensures.meant) c.loop-grouping.invariant.meant
+
+pub group_by-returns-in_err-grouping-clause-grows : goal.group_by-returns-in_err-grouping-clause-grows
+group_by-returns-in_err-grouping-clause-grows g t c =
+    λ w start h hk he s gr.
+    c.grouped.ensures.grows w start (covered_as (world c.args.self.now) w _ _ c.in_ok-pipe.ensures.source h) (stage_as (world c.args.self.now) w _ _ c.in_ok-pipe.ensures.stage refl) (covered_as (world c.args.self.now) w _ _ c.lambda-key.ensures.body hk) (covered_as (world c.args.self.now) w _ _ c.lambda-element.ensures.body he) s gr
+
+pub group_by-returns-in_err-groups-in-Done-clause-grows : goal.group_by-returns-in_err-groups-in-Done-clause-grows
+group_by-returns-in_err-groups-in-Done-clause-grows g t c =
+    λ w start h hk he s gr.
+    c.grouped.ensures.grows w start (covered_as (world c.args.self.now) w _ _ c.in_ok-pipe.ensures.source h) (stage_as (world c.args.self.now) w _ _ c.in_ok-pipe.ensures.stage refl) (covered_as (world c.args.self.now) w _ _ c.lambda-key.ensures.body hk) (covered_as (world c.args.self.now) w _ _ c.lambda-element.ensures.body he) s gr
+
+pub group_by-returns-in-Done-clause-grows : goal.group_by-returns-in-Done-clause-grows
+group_by-returns-in-Done-clause-grows g t c =
+    λ w start h hk he s gr.
+    c.grouped.ensures.grows w start (covered_as (world c.args.self.now) w _ _ c.in_ok-pipe.ensures.source h) (stage_as (world c.args.self.now) w _ _ c.in_ok-pipe.ensures.stage refl) (covered_as (world c.args.self.now) w _ _ c.lambda-key.ensures.body hk) (covered_as (world c.args.self.now) w _ _ c.lambda-element.ensures.body he) s gr
+
+pub group_by-returns-clause-grows : goal.group_by-returns-clause-grows
+group_by-returns-clause-grows g t c =
+    λ w start h hk he s gr.
+    c.grouped.ensures.grows w start (covered_as (world c.args.self.now) w _ _ c.in_ok-pipe.ensures.source h) (stage_as (world c.args.self.now) w _ _ c.in_ok-pipe.ensures.stage refl) (covered_as (world c.args.self.now) w _ _ c.lambda-key.ensures.body hk) (covered_as (world c.args.self.now) w _ _ c.lambda-element.ensures.body he) s gr
+
+pub group_by-returns-in-Done-clause-meant : goal.group_by-returns-in-Done-clause-meant
+group_by-returns-in-Done-clause-meant g t c =
+    group_by_done (world c.args.self.now) (values_in c.args.slots.now) c.args.source.now c.args.key.now c.args.element.now _ c.lambda-element.result.body c.lambda-key.ensures.body c.lambda-element.ensures.body c.in_ok-grouping.grouping c.in_ok-grouping.end _
+    (subst (λ s. AreGrouped c.in_ok-grouping.grouping c.in_ok-grouping.end (keys_and_elements (world c.args.self.now) (values_in c.args.slots.now) c.lambda-key.result.body.now (Some c.lambda-element.result.body) s)) c.in_ok-pipe.ensures.items c.in_ok-grouping.ensures.meant) c.in-Done.is c.in_ok-groups-in-Done.ensures
+
+pub group_by-returns-clause-meant : goal.group_by-returns-clause-meant
+group_by-returns-clause-meant g t c =
+    group_by_stops (world c.args.self.now) (values_in c.args.slots.now) c.args.source.now c.args.key.now c.args.element.now _ c.lambda-element.result.body c.lambda-key.ensures.body c.lambda-element.ensures.body c.in_ok-grouping.grouping c.in_ok-grouping.end _ _
+    (subst (λ s. AreGrouped c.in_ok-grouping.grouping c.in_ok-grouping.end (keys_and_elements (world c.args.self.now) (values_in c.args.slots.now) c.lambda-key.result.body.now (Some c.lambda-element.result.body) s)) c.in_ok-pipe.ensures.items c.in_ok-grouping.ensures.meant) c.in-Fault.is c.fault_sequence.ensures
+
+pub key_and_element-returns-in-Ok-2-clause-grows : goal.key_and_element-returns-in-Ok-2-clause-grows
+key_and_element-returns-in-Ok-2-clause-grows g t c =
+    λ w start hk he s i gr.
+    c.value_by-in-Ok.ensures.grows w start he s i (c.value_by.ensures.grows w start hk s i gr)
+
+pub key_pairs-loop-pairs-init : goal.key_pairs-loop-pairs-init
+key_pairs-loop-pairs-init g t c =
+    record {
+      meant = selects_begin (key_and_element (world c.args.self.now) (values_in c.args.slots.now) c.args.key.now None) _ _ _ c.new-pairs.ensures (left_opened (world c.args.self.now) (values_in c.args.slots.now) _ _ c.in_ok-base.base c.in_ok-base.ensures.meant ∙ c.in_ok-pipe.ensures.items);
+      log = opened (world c.args.self.now) (facts c.args.self.now.sources) g.R.TableRow.table_of g.R.RowRef.shown (values_in c.args.slots.now) c.in_ok-pipe.pipe (λ w. Covers (world c.args.self.now) (values_in c.args.slots.now) c.in_ok-pipe.pipe w × (is_covered (world c.args.self.now) w c.args.key.now ≡ true)) _ _ c.in_ok-base.base (λ w start p gr. c.open.ensures.grows w start p.0.source_in p.0.slots_in gr) (λ w p. c.in_ok-base.ensures.from w p.0.source_in p.0.slots_in);
+    }
+
+pub key_pairs-returns-in_err-item-clause-grows : goal.key_pairs-returns-in_err-item-clause-grows
+key_pairs-returns-in_err-item-clause-grows g t c =
+    λ w start a hk s gr.
+    (went_on (world c.args.self.now) (facts c.args.self.now.sources) g.R.TableRow.table_of g.R.RowRef.shown (values_in c.args.slots.now) c.in_ok-pipe.pipe (λ w. Covers (world c.args.self.now) (values_in c.args.slots.now) c.in_ok-pipe.pipe w × (is_covered (world c.args.self.now) w c.args.key.now ≡ true)) (λ w p. p.0) _ _ _ c.loop-pairs.base c.next.new.base c.loop-pairs.invariant.log c.next.ensures.pulled).grows w start (covers_pipe (world c.args.self.now) (values_in c.args.slots.now) c.in_ok-pipe.pipe w (covered_as (world c.args.self.now) w _ _ c.in_ok-pipe.ensures.source a) (stage_as (world c.args.self.now) w _ _ c.in_ok-pipe.ensures.stage refl) s, hk) gr
+
+pub key_pairs-returns-in-Err-clause-grows : goal.key_pairs-returns-in-Err-clause-grows
+key_pairs-returns-in-Err-clause-grows g t c =
+    λ w start a hk s gr.
+    (went_on (world c.args.self.now) (facts c.args.self.now.sources) g.R.TableRow.table_of g.R.RowRef.shown (values_in c.args.slots.now) c.in_ok-pipe.pipe (λ w. Covers (world c.args.self.now) (values_in c.args.slots.now) c.in_ok-pipe.pipe w × (is_covered (world c.args.self.now) w c.args.key.now ≡ true)) (λ w p. p.0) _ _ _ c.loop-pairs.base c.next.new.base c.loop-pairs.invariant.log c.next.ensures.pulled).grows w start (covers_pipe (world c.args.self.now) (values_in c.args.slots.now) c.in_ok-pipe.pipe w (covered_as (world c.args.self.now) w _ _ c.in_ok-pipe.ensures.source a) (stage_as (world c.args.self.now) w _ _ c.in_ok-pipe.ensures.stage refl) s, hk) gr
+
+pub key_pairs-returns-in_err-key-in-Ok-clause-grows : goal.key_pairs-returns-in_err-key-in-Ok-clause-grows
+key_pairs-returns-in_err-key-in-Ok-clause-grows g t c =
+    λ w start a hk s gr.
+    (asked (world c.args.self.now) (facts c.args.self.now.sources) g.R.TableRow.table_of g.R.RowRef.shown (values_in c.args.slots.now) c.in_ok-pipe.pipe (λ w. Covers (world c.args.self.now) (values_in c.args.slots.now) c.in_ok-pipe.pipe w × (is_covered (world c.args.self.now) w c.args.key.now ≡ true)) _ _ _ _ (went_on (world c.args.self.now) (facts c.args.self.now.sources) g.R.TableRow.table_of g.R.RowRef.shown (values_in c.args.slots.now) c.in_ok-pipe.pipe (λ w. Covers (world c.args.self.now) (values_in c.args.slots.now) c.in_ok-pipe.pipe w × (is_covered (world c.args.self.now) w c.args.key.now ≡ true)) (λ w p. p.0) _ _ _ c.loop-pairs.base c.next.new.base c.loop-pairs.invariant.log c.next.ensures.pulled)
+    (λ w start p gr. c.value_by.ensures.grows w start (covered_as (world c.args.self.now) w _ _ c.lambda-lambda.ensures.body p.1) p.0.slots_in (next_passes (world c.args.self.now) (facts c.args.self.now.sources) g.R.TableRow.table_of g.R.RowRef.shown (values_in c.args.slots.now) c.in_ok-pipe.pipe (λ w. Covers (world c.args.self.now) (values_in c.args.slots.now) c.in_ok-pipe.pipe w × (is_covered (world c.args.self.now) w c.args.key.now ≡ true)) (λ w p. p.0) _ _ c.loop-pairs.base _ c.in-Ok.item (items_left (world c.args.self.now) (values_in c.args.slots.now) c.in_ok-pipe.pipe c.next.new.base) c.loop-pairs.invariant.log c.in_ok-pipe.ensures.planned c.in-Ok.is c.in_ok-item.ensures.meant w p) gr)).grows w start (covers_pipe (world c.args.self.now) (values_in c.args.slots.now) c.in_ok-pipe.pipe w (covered_as (world c.args.self.now) w _ _ c.in_ok-pipe.ensures.source a) (stage_as (world c.args.self.now) w _ _ c.in_ok-pipe.ensures.stage refl) s, hk) gr
+
+pub key_pairs-returns-in_err-push-in-Ok-2-clause-grows : goal.key_pairs-returns-in_err-push-in-Ok-2-clause-grows
+key_pairs-returns-in_err-push-in-Ok-2-clause-grows g t c =
+    λ w start a hk s gr.
+    (asked (world c.args.self.now) (facts c.args.self.now.sources) g.R.TableRow.table_of g.R.RowRef.shown (values_in c.args.slots.now) c.in_ok-pipe.pipe (λ w. Covers (world c.args.self.now) (values_in c.args.slots.now) c.in_ok-pipe.pipe w × (is_covered (world c.args.self.now) w c.args.key.now ≡ true)) _ _ _ _ (went_on (world c.args.self.now) (facts c.args.self.now.sources) g.R.TableRow.table_of g.R.RowRef.shown (values_in c.args.slots.now) c.in_ok-pipe.pipe (λ w. Covers (world c.args.self.now) (values_in c.args.slots.now) c.in_ok-pipe.pipe w × (is_covered (world c.args.self.now) w c.args.key.now ≡ true)) (λ w p. p.0) _ _ _ c.loop-pairs.base c.next.new.base c.loop-pairs.invariant.log c.next.ensures.pulled)
+    (λ w start p gr. c.value_by.ensures.grows w start (covered_as (world c.args.self.now) w _ _ c.lambda-lambda.ensures.body p.1) p.0.slots_in (next_passes (world c.args.self.now) (facts c.args.self.now.sources) g.R.TableRow.table_of g.R.RowRef.shown (values_in c.args.slots.now) c.in_ok-pipe.pipe (λ w. Covers (world c.args.self.now) (values_in c.args.slots.now) c.in_ok-pipe.pipe w × (is_covered (world c.args.self.now) w c.args.key.now ≡ true)) (λ w p. p.0) _ _ c.loop-pairs.base _ c.in-Ok.item (items_left (world c.args.self.now) (values_in c.args.slots.now) c.in_ok-pipe.pipe c.next.new.base) c.loop-pairs.invariant.log c.in_ok-pipe.ensures.planned c.in-Ok.is c.in_ok-item.ensures.meant w p) gr)).grows w start (covers_pipe (world c.args.self.now) (values_in c.args.slots.now) c.in_ok-pipe.pipe w (covered_as (world c.args.self.now) w _ _ c.in_ok-pipe.ensures.source a) (stage_as (world c.args.self.now) w _ _ c.in_ok-pipe.ensures.stage refl) s, hk) gr
+
+pub key_pairs-returns-in-Err-2-clause-grows : goal.key_pairs-returns-in-Err-2-clause-grows
+key_pairs-returns-in-Err-2-clause-grows g t c =
+    λ w start a hk s gr.
+    (asked (world c.args.self.now) (facts c.args.self.now.sources) g.R.TableRow.table_of g.R.RowRef.shown (values_in c.args.slots.now) c.in_ok-pipe.pipe (λ w. Covers (world c.args.self.now) (values_in c.args.slots.now) c.in_ok-pipe.pipe w × (is_covered (world c.args.self.now) w c.args.key.now ≡ true)) _ _ _ _ (went_on (world c.args.self.now) (facts c.args.self.now.sources) g.R.TableRow.table_of g.R.RowRef.shown (values_in c.args.slots.now) c.in_ok-pipe.pipe (λ w. Covers (world c.args.self.now) (values_in c.args.slots.now) c.in_ok-pipe.pipe w × (is_covered (world c.args.self.now) w c.args.key.now ≡ true)) (λ w p. p.0) _ _ _ c.loop-pairs.base c.next.new.base c.loop-pairs.invariant.log c.next.ensures.pulled)
+    (λ w start p gr. c.value_by.ensures.grows w start (covered_as (world c.args.self.now) w _ _ c.lambda-lambda.ensures.body p.1) p.0.slots_in (next_passes (world c.args.self.now) (facts c.args.self.now.sources) g.R.TableRow.table_of g.R.RowRef.shown (values_in c.args.slots.now) c.in_ok-pipe.pipe (λ w. Covers (world c.args.self.now) (values_in c.args.slots.now) c.in_ok-pipe.pipe w × (is_covered (world c.args.self.now) w c.args.key.now ≡ true)) (λ w p. p.0) _ _ c.loop-pairs.base _ c.in-Ok.item (items_left (world c.args.self.now) (values_in c.args.slots.now) c.in_ok-pipe.pipe c.next.new.base) c.loop-pairs.invariant.log c.in_ok-pipe.ensures.planned c.in-Ok.is c.in_ok-item.ensures.meant w p) gr)).grows w start (covers_pipe (world c.args.self.now) (values_in c.args.slots.now) c.in_ok-pipe.pipe w (covered_as (world c.args.self.now) w _ _ c.in_ok-pipe.ensures.source a) (stage_as (world c.args.self.now) w _ _ c.in_ok-pipe.ensures.stage refl) s, hk) gr
+
+pub key_pairs-loop-pairs-preserved : goal.key_pairs-loop-pairs-preserved
+key_pairs-loop-pairs-preserved g t c =
+    record {
+      meant = selects_on (key_and_element (world c.args.self.now) (values_in c.args.slots.now) c.args.key.now None) (items_left (world c.args.self.now) (values_in c.args.slots.now) c.in_ok-pipe.pipe c.loop-pairs.base) (items_left (world c.args.self.now) (values_in c.args.slots.now) c.in_ok-pipe.pipe c.next.new.base) c.in-Ok.item (c.in-Ok-2.key, c.in-Ok.item) _ c.loop-pairs.pairs _ (subst (λ s. Steps (items_left (world c.args.self.now) (values_in c.args.slots.now) c.in_ok-pipe.pipe c.loop-pairs.base) s (items_left (world c.args.self.now) (values_in c.args.slots.now) c.in_ok-pipe.pipe c.next.new.base)) c.in-Ok.is c.in_ok-item.ensures.meant)
+          (ap (λ m. both m (Ok c.in-Ok.item)) (sym c.in-Ok-2.is ∙ c.in_ok-key-in-Ok.ensures.meant ∙ ap (λ f. value_of_item (world c.args.self.now) f c.args.slots.now c.in-Ok.item) c.lambda-lambda.ensures.body)) c.in_ok-push-in-Ok-2.ensures.ok c.loop-pairs.invariant.meant;
+      log = (asked (world c.args.self.now) (facts c.args.self.now.sources) g.R.TableRow.table_of g.R.RowRef.shown (values_in c.args.slots.now) c.in_ok-pipe.pipe (λ w. Covers (world c.args.self.now) (values_in c.args.slots.now) c.in_ok-pipe.pipe w × (is_covered (world c.args.self.now) w c.args.key.now ≡ true)) _ _ _ _ (went_on (world c.args.self.now) (facts c.args.self.now.sources) g.R.TableRow.table_of g.R.RowRef.shown (values_in c.args.slots.now) c.in_ok-pipe.pipe (λ w. Covers (world c.args.self.now) (values_in c.args.slots.now) c.in_ok-pipe.pipe w × (is_covered (world c.args.self.now) w c.args.key.now ≡ true)) (λ w p. p.0) _ _ _ c.loop-pairs.base c.next.new.base c.loop-pairs.invariant.log c.next.ensures.pulled)
+          (λ w start p gr. c.value_by.ensures.grows w start (covered_as (world c.args.self.now) w _ _ c.lambda-lambda.ensures.body p.1) p.0.slots_in (next_passes (world c.args.self.now) (facts c.args.self.now.sources) g.R.TableRow.table_of g.R.RowRef.shown (values_in c.args.slots.now) c.in_ok-pipe.pipe (λ w. Covers (world c.args.self.now) (values_in c.args.slots.now) c.in_ok-pipe.pipe w × (is_covered (world c.args.self.now) w c.args.key.now ≡ true)) (λ w p. p.0) _ _ c.loop-pairs.base _ c.in-Ok.item (items_left (world c.args.self.now) (values_in c.args.slots.now) c.in_ok-pipe.pipe c.next.new.base) c.loop-pairs.invariant.log c.in_ok-pipe.ensures.planned c.in-Ok.is c.in_ok-item.ensures.meant w p) gr));
+    }
+
+pub key_pairs-returns-in-Err-2-clause-meant : goal.key_pairs-returns-in-Err-2-clause-meant
+key_pairs-returns-in-Err-2-clause-meant g t c =
+    selects_stopped (key_and_element (world c.args.self.now) (values_in c.args.slots.now) c.args.key.now None) (items_left (world c.args.self.now) (values_in c.args.slots.now) c.in_ok-pipe.pipe c.loop-pairs.base) (items_left (world c.args.self.now) (values_in c.args.slots.now) c.in_ok-pipe.pipe c.next.new.base) c.in-Ok.item _ _ c.loop-pairs.pairs (subst (λ s. Steps (items_left (world c.args.self.now) (values_in c.args.slots.now) c.in_ok-pipe.pipe c.loop-pairs.base) s (items_left (world c.args.self.now) (values_in c.args.slots.now) c.in_ok-pipe.pipe c.next.new.base)) c.in-Ok.is c.in_ok-item.ensures.meant)
+    (ap (λ m. both m (Ok c.in-Ok.item)) (sym c.in-Err-2.is ∙ c.in_ok-key-in-Ok.ensures.meant ∙ ap (λ f. value_of_item (world c.args.self.now) f c.args.slots.now c.in-Ok.item) c.lambda-lambda.ensures.body)) c.loop-pairs.invariant.meant
+
+pub join_item-returns-in_err-key-clause-grows : goal.join_item-returns-in_err-key-clause-grows
+join_item-returns-in_err-key-clause-grows g t c =
+    λ w start h m s i gr.
+    c.value_by.ensures.grows w start (covered_as (world c.args.self.now) w _ _ c.requires.outer (join_outer_key (world c.args.self.now) w c.args.joined.now h)) s i gr
+
+pub join_item-returns-in_err-inner-in-Ok-clause-grows : goal.join_item-returns-in_err-inner-in-Ok-clause-grows
+join_item-returns-in_err-inner-in-Ok-clause-grows g t c =
+    λ w start h m s i gr.
+    c.value_by.ensures.grows w start (covered_as (world c.args.self.now) w _ _ c.requires.outer (join_outer_key (world c.args.self.now) w c.args.joined.now h)) s i gr
+
+pub join_item-returns-in-Err-clause-grows : goal.join_item-returns-in-Err-clause-grows
+join_item-returns-in-Err-clause-grows g t c =
+    λ w start h m s i gr.
+    c.value_by.ensures.grows w start (covered_as (world c.args.self.now) w _ _ c.requires.outer (join_outer_key (world c.args.self.now) w c.args.joined.now h)) s i gr
+
+pub join_item-returns-in_ok-inner-in-Ok-clause-grows : goal.join_item-returns-in_ok-inner-in-Ok-clause-grows
+join_item-returns-in_ok-inner-in-Ok-clause-grows g t c =
+    λ w start h m s i gr.
+    c.select_all.ensures.grows w start (join_result (world c.args.self.now) w c.args.joined.now h) (slot_more w (values_in c.args.slots.now) _ _ c.with-deeper.ensures s i)
+    (ap (have_watched_rows w) (c.as_slice.ensures ∙ c.in_ok-inner-in-Ok.ensures (world c.args.self.now)) ∙ matched_pass w (world c.args.self.now) _ _ _ m)
+    (c.value_by.ensures.grows w start (covered_as (world c.args.self.now) w _ _ c.requires.outer (join_outer_key (world c.args.self.now) w c.args.joined.now h)) s i gr)
+
 pub join_item-returns-in_ok-inner-in-Ok-clause-meant : goal.join_item-returns-in_ok-inner-in-Ok-clause-meant
 join_item-returns-in_ok-inner-in-Ok-clause-meant g t c =
     joined_met (world c.args.self.now) (values_in c.args.slots.now) c.args.joined.now (pairs_of c.args.matches.now) c.args.item.now _ _ _ _ c.select_all.result
-    (sym c.in-Ok.is ∙ c.in_ok-key.ensures.meant) (c.in_ok-inner-in-Ok.ensures (world c.args.self.now)) c.as_slice.ensures
+    (sym c.in-Ok.is ∙ c.in_ok-key.ensures.meant ∙ ap (λ f. value_of_item (world c.args.self.now) f c.args.slots.now c.args.item.now) c.requires.outer) (c.in_ok-inner-in-Ok.ensures (world c.args.self.now)) c.as_slice.ensures
     (matched_is (world c.args.self.now) (values_in c.args.slots.now) c.args.item.now _ c.args.joined.now.result _ _ c.select_all.result c.with-deeper.ensures c.select_all.ensures.meant)
+
+pub join_item-returns-in-Err-clause-meant : goal.join_item-returns-in-Err-clause-meant
+join_item-returns-in-Err-clause-meant g t c =
+    joined_unmet (world c.args.self.now) (values_in c.args.slots.now) c.args.joined.now (pairs_of c.args.matches.now) c.args.item.now _ _ c.new.ensures
+    (sym c.in-Err.is ∙ c.in_ok-key.ensures.meant ∙ ap (λ f. value_of_item (world c.args.self.now) f c.args.slots.now c.args.item.now) c.requires.outer)
+
+pub distinct-loop-distinct-init : goal.distinct-loop-distinct-init
+distinct-loop-distinct-init g t c =
+    record {
+      meant = firsts_begin _ _ _ c.in_ok-distinct.ensures (left_opened (world c.args.self.now) (values_in c.args.slots.now) _ _ c.in_ok-base.base c.in_ok-base.ensures.meant);
+      log = opened (world c.args.self.now) (facts c.args.self.now.sources) g.R.TableRow.table_of g.R.RowRef.shown (values_in c.args.slots.now) c.args.pipe.now (Covers (world c.args.self.now) (values_in c.args.slots.now) c.args.pipe.now) _ _ c.in_ok-base.base (λ w start p gr. c.open.ensures.grows w start p.source_in p.slots_in gr) (λ w p. c.in_ok-base.ensures.from w p.source_in p.slots_in);
+    }
+
+pub distinct-returns-in_err-item-clause-grows : goal.distinct-returns-in_err-item-clause-grows
+distinct-returns-in_err-item-clause-grows g t c =
+    λ w start a b s gr.
+    (went_on (world c.args.self.now) (facts c.args.self.now.sources) g.R.TableRow.table_of g.R.RowRef.shown (values_in c.args.slots.now) c.args.pipe.now (Covers (world c.args.self.now) (values_in c.args.slots.now) c.args.pipe.now) (λ w p. p) _ _ _ c.loop-distinct.base c.next.new.base c.loop-distinct.invariant.log c.next.ensures.pulled).grows w start (covers_pipe (world c.args.self.now) (values_in c.args.slots.now) c.args.pipe.now w a b s) gr
+
+pub distinct-returns-in_err-add-in-Ok-clause-grows : goal.distinct-returns-in_err-add-in-Ok-clause-grows
+distinct-returns-in_err-add-in-Ok-clause-grows g t c =
+    λ w start a b s gr.
+    (went_on (world c.args.self.now) (facts c.args.self.now.sources) g.R.TableRow.table_of g.R.RowRef.shown (values_in c.args.slots.now) c.args.pipe.now (Covers (world c.args.self.now) (values_in c.args.slots.now) c.args.pipe.now) (λ w p. p) _ _ _ c.loop-distinct.base c.next.new.base c.loop-distinct.invariant.log c.next.ensures.pulled).grows w start (covers_pipe (world c.args.self.now) (values_in c.args.slots.now) c.args.pipe.now w a b s) gr
+
+pub distinct-returns-in-Err-clause-grows : goal.distinct-returns-in-Err-clause-grows
+distinct-returns-in-Err-clause-grows g t c =
+    λ w start a b s gr.
+    (went_on (world c.args.self.now) (facts c.args.self.now.sources) g.R.TableRow.table_of g.R.RowRef.shown (values_in c.args.slots.now) c.args.pipe.now (Covers (world c.args.self.now) (values_in c.args.slots.now) c.args.pipe.now) (λ w p. p) _ _ _ c.loop-distinct.base c.next.new.base c.loop-distinct.invariant.log c.next.ensures.pulled).grows w start (covers_pipe (world c.args.self.now) (values_in c.args.slots.now) c.args.pipe.now w a b s) gr
+
+pub distinct-loop-distinct-preserved : goal.distinct-loop-distinct-preserved
+distinct-loop-distinct-preserved g t c =
+    record {
+      meant = firsts_on (items_left (world c.args.self.now) (values_in c.args.slots.now) c.args.pipe.now c.loop-distinct.base) (items_left (world c.args.self.now) (values_in c.args.slots.now) c.args.pipe.now c.next.new.base) _ c.in-Ok.item (firsts_in c.loop-distinct.distinct) _ (subst (λ s. Steps (items_left (world c.args.self.now) (values_in c.args.slots.now) c.args.pipe.now c.loop-distinct.base) s (items_left (world c.args.self.now) (values_in c.args.slots.now) c.args.pipe.now c.next.new.base)) c.in-Ok.is c.in_ok-item.ensures.meant) c.in_ok-add-in-Ok.ensures c.loop-distinct.invariant.meant;
+      log = (went_on (world c.args.self.now) (facts c.args.self.now.sources) g.R.TableRow.table_of g.R.RowRef.shown (values_in c.args.slots.now) c.args.pipe.now (Covers (world c.args.self.now) (values_in c.args.slots.now) c.args.pipe.now) (λ w p. p) _ _ _ c.loop-distinct.base c.next.new.base c.loop-distinct.invariant.log c.next.ensures.pulled);
+    }
+
+pub distinct-loop-distinct-smaller : goal.distinct-loop-distinct-smaller
+distinct-loop-distinct-smaller g t c =
+    fewer (items_left (world c.args.self.now) (values_in c.args.slots.now) c.args.pipe.now c.loop-distinct.base) (items_left (world c.args.self.now) (values_in c.args.slots.now) c.args.pipe.now c.next.new.base) c.in-Ok.item (subst (λ s. Steps (items_left (world c.args.self.now) (values_in c.args.slots.now) c.args.pipe.now c.loop-distinct.base) s (items_left (world c.args.self.now) (values_in c.args.slots.now) c.args.pipe.now c.next.new.base)) c.in-Ok.is c.in_ok-item.ensures.meant)
+
+pub distinct-returns-in-Err-clause-meant : goal.distinct-returns-in-Err-clause-meant
+distinct-returns-in-Err-clause-meant g t c =
+    ap (λ s. Ok (sequence s)) (sym (firsts_ended (items_left (world c.args.self.now) (values_in c.args.slots.now) c.args.pipe.now c.loop-distinct.base) _ c.in-Err.end (firsts_in c.loop-distinct.distinct) _ (subst (λ s. Steps (items_left (world c.args.self.now) (values_in c.args.slots.now) c.args.pipe.now c.loop-distinct.base) s (items_left (world c.args.self.now) (values_in c.args.slots.now) c.args.pipe.now c.next.new.base)) c.in-Err.is c.in_ok-item.ensures.meant) c.into_items.ensures c.loop-distinct.invariant.meant))
 
 pub key_columns-returns-in_err-column-clause-meant : goal.key_columns-returns-in_err-column-clause-meant
 key_columns-returns-in_err-column-clause-meant g t c =
@@ -89,14 +399,6 @@ key_columns-returns-in_err-column-clause-meant g t c =
     let same : c.from_residual.result ≡ Err c.in_err-column.field-0.0 = search rules in
     subst (λ r. Answers (columns_of (world c.args.self.now) (values_in c.args.slots.now) c.args.keys.now c.args.items.now) r) (sym same)
     (subst (λ ks. Answers (columns_of (world c.args.self.now) (values_in c.args.slots.now) ks c.args.items.now) (Err c.in_err-column.field-0.0)) c.as_slice-key-items.ensures stops)
-
-pub key_column-returns-in_err-scalar-clause-meant : goal.key_column-returns-in_err-scalar-clause-meant
-key_column-returns-in_err-scalar-clause-meant g t c =
-    let stops = all_stops (key_at (world c.args.self.now) (values_in c.args.slots.now) c.args.key.now) c.args.items.now _ c.loop-item.column _ _
-    c.item-item.is c.loop-item-test.true c.loop-item.invariant.meant c.in_err-scalar.field-0.0
-    (key_answer (world c.args.self.now) (values_in c.args.slots.now) _ _ c.args.key.now (Err c.in_err-scalar.field-0.0) c.with.ensures c.in_err-scalar.ensures.meant) in
-    let same : c.from_residual.result ≡ Err c.in_err-scalar.field-0.0 = search rules in
-    subst (λ r. Answers (all_of (key_at (world c.args.self.now) (values_in c.args.slots.now) c.args.key.now) c.args.items.now) r) (sym same) stops
 
 pub truth_of_two-returns-in_ok-binary-in-None-clause-meant : goal.truth_of_two-returns-in_ok-binary-in-None-clause-meant
 truth_of_two-returns-in_ok-binary-in-None-clause-meant g t c =
@@ -163,10 +465,6 @@ order_by-returns-clause-meant g t c =
     order_by_stops (world c.args.self.now) (values_in c.args.slots.now) c.args.source.now c.args.keys.now _ c.in_ok-items.items c.in_ok-items.end _ c.fault_sequence.result
     c.in_ok-pipe.ensures.items c.in_ok-items.ensures.meant c.in-Fault.is c.fault_sequence.ensures
 
-pub group_by-returns-clause-meant : goal.group_by-returns-clause-meant
-group_by-returns-clause-meant g t c =
-    group_by_answer (world c.args.self.now) (values_in c.args.slots.now) c.args.source.now c.args.key.now c.args.element _ _ _ _ refl c.in_ok-pairs.ensures.meant c.in_ok-groups.ensures
-
 pub join-returns-in_ok-values-in-Done-clause-meant : goal.join-returns-in_ok-values-in-Done-clause-meant
 join-returns-in_ok-values-in-Done-clause-meant g t c =
     join_answer (world c.args.self.now) (values_in c.args.slots.now) c.args.source.now c.args.joined.now _ _ (c.in_ok-values-in-Done.values, c.in_ok-values-in-Done.end) _ _ _
@@ -184,29 +482,246 @@ pub simple-returns-in_ok-pipe-in-None-clause-meant : goal.simple-returns-in_ok-p
 simple-returns-in_ok-pipe-in-None-clause-meant g t c =
     subst (λ s. IsAnswer (simple_meaning c.args.method c.args.of.now s) c.simple_items-in-None.result) c.in_ok-pipe-in-None.ensures.items c.simple_items-in-None.ensures.meant
 
-pub pass_pulled-returns-in-Row-clause-meant : goal.pass_pulled-returns-in-Row-clause-meant
-pass_pulled-returns-in-Row-clause-meant g t c =
-    let passes = subst (λ p. IsPulled g.R.TableRow.table_of g.R.RowRef.shown c.args.pipe.now.plan p) c.in-Row.is c.requires.pulled in
-    let says = row_says g.R.TableRow.table_of g.R.RowRef.shown (world c.args.self.now) (values_in c.args.slots.now) c.args.pipe.now.stage c.args.pipe.now.source.now c.args.pipe.now.plan c.requires.planned c.in-Row.row true passes in
-    subst (λ p. IfOk c.pass_row.result (λ o. outcome_stream o ≡ comes g.R.TableRow.table_of g.R.RowRef.shown (world c.args.self.now) (values_in c.args.slots.now) c.args.pipe.now (pulled_value p))) (sym c.in-Row.is)
-    (subst (λ s. IfOk c.pass_row.result (λ o. outcome_stream o ≡ s)) (sym says) c.pass_row.ensures.meant)
+pub next-returns-in-Ok-Row-clause-meant : goal.next-returns-in-Ok-Row-clause-meant
+next-returns-in-Ok-Row-clause-meant g t c =
+    next_given g.R.TableRow.table_of g.R.RowRef.shown (world c.args.self.now) (values_in c.args.slots.now) c.args.pipe.now c.args.base.now c.loop-row.base c.pull.new.self (value.Row c.in-Ok-Row.row) c.pass_row.result c.requires c.loop-row.invariant.meant
+    (subst (λ r. IfOk r (λ p. (kept_stream g.R.TableRow.table_of g.R.RowRef.shown c.args.pipe.now.plan c.loop-row.base) ≡ in_front (pulled_value p) (kept_stream g.R.TableRow.table_of g.R.RowRef.shown c.args.pipe.now.plan c.pull.new.self))) (c.in-Ok-Row.is ∙ ap (λ p. Ok p) c.in-Ok-Row.field-0-is) c.pull.ensures.item)
+    (subst (λ (s : Stream (Value _)). IfOk c.pass_row.result (GivesStep s)) (sym (row_says g.R.TableRow.table_of g.R.RowRef.shown (world c.args.self.now) (values_in c.args.slots.now) c.args.pipe.now.stage c.args.pipe.now.source.now c.args.pipe.now.plan c.requires c.in-Ok-Row.row true (subst (λ r. IfOk r (IsPulled g.R.TableRow.table_of g.R.RowRef.shown c.args.pipe.now.plan)) (c.in-Ok-Row.is ∙ ap (λ p. Ok p) c.in-Ok-Row.field-0-is) c.pull.ensures.planned))) c.pass_row.ensures.meant)
+
+pub next-returns-in-Ok-Row-clause-pulled : goal.next-returns-in-Ok-Row-clause-pulled
+next-returns-in-Ok-Row-clause-pulled g t c =
+    pulled_more (world c.args.self.now) (facts c.args.self.now.sources) (λ w. is_covered_pipe (world c.args.self.now) w (values_in c.args.slots.now) c.args.pipe.now) _ (kept_stream g.R.TableRow.table_of g.R.RowRef.shown c.args.pipe.now.plan c.loop-row.base) (kept_stream g.R.TableRow.table_of g.R.RowRef.shown c.args.pipe.now.plan c.pull.new.self) _ _ _ (value.Row c.in-Ok-Row.row)
+    c.loop-row.invariant.pulled
+    (subst (λ r. IfOk r (λ p. (kept_stream g.R.TableRow.table_of g.R.RowRef.shown c.args.pipe.now.plan c.loop-row.base) ≡ in_front (pulled_value p) (kept_stream g.R.TableRow.table_of g.R.RowRef.shown c.args.pipe.now.plan c.pull.new.self))) (c.in-Ok-Row.is ∙ ap (λ p. Ok p) c.in-Ok-Row.field-0-is) c.pull.ensures.item)
+    (λ w start h i gr. c.pass_row.ensures.grows w start (stage_covered g.R.TableRow.table_of g.R.RowRef.shown (world c.args.self.now) w (values_in c.args.slots.now) c.args.pipe.now h) (slots_pass g.R.TableRow.table_of g.R.RowRef.shown (world c.args.self.now) w (values_in c.args.slots.now) c.args.pipe.now h) (row_passes w (value.Row c.in-Ok-Row.row) c.in-Ok-Row.row refl i) gr)
+
+pub next-returns-in-Ok-Row-clause-hands : goal.next-returns-in-Ok-Row-clause-hands
+next-returns-in-Ok-Row-clause-hands g t c =
+    hands_given g.R.TableRow.table_of g.R.RowRef.shown (world c.args.self.now) (values_in c.args.slots.now) c.args.pipe.now c.requires (rows_to_come c.args.base.now) (handed_out c.args.base.now) (rows_to_come c.loop-row.base) (handed_out c.loop-row.base) (rows_to_come c.pull.new.self) (handed_out c.pull.new.self) c.loop-row.invariant.passes (of_pulled.Row c.in-Ok-Row.row) c.pass_row.result (subst (λ r. HandsOut g.R.TableRow.table_of g.R.RowRef.shown c.args.pipe.now.plan (rows_to_come c.loop-row.base) (handed_out c.loop-row.base) r (rows_to_come c.pull.new.self) (handed_out c.pull.new.self)) (c.in-Ok-Row.is ∙ ap (λ p. Ok p) c.in-Ok-Row.field-0-is) c.pull.ensures.hands)
+    (subst (λ (s : Stream (Value _)). IfOk c.pass_row.result (GivesStep s)) (sym (row_says g.R.TableRow.table_of g.R.RowRef.shown (world c.args.self.now) (values_in c.args.slots.now) c.args.pipe.now.stage c.args.pipe.now.source.now c.args.pipe.now.plan c.requires c.in-Ok-Row.row true (subst (λ r. IfOk r (IsPulled g.R.TableRow.table_of g.R.RowRef.shown c.args.pipe.now.plan)) (c.in-Ok-Row.is ∙ ap (λ p. Ok p) c.in-Ok-Row.field-0-is) c.pull.ensures.planned))) c.pass_row.ensures.meant)
+
+pub next-returns-in-Ok-Row-clause-within : goal.next-returns-in-Ok-Row-clause-within
+next-returns-in-Ok-Row-clause-within g t c =
+    at_most g.R.TableRow.table_of g.R.RowRef.shown (world c.args.self.now) (values_in c.args.slots.now) c.args.pipe.now c.requires (rows_to_come c.args.base.now) (handed_out c.args.base.now) (rows_to_come c.loop-row.base) (handed_out c.loop-row.base) (rows_to_come c.pull.new.self) (handed_out c.pull.new.self) c.loop-row.invariant.passes (of_pulled.Row c.in-Ok-Row.row) (subst (λ r. HandsOut g.R.TableRow.table_of g.R.RowRef.shown c.args.pipe.now.plan (rows_to_come c.loop-row.base) (handed_out c.loop-row.base) r (rows_to_come c.pull.new.self) (handed_out c.pull.new.self)) (c.in-Ok-Row.is ∙ ap (λ p. Ok p) c.in-Ok-Row.field-0-is) c.pull.ensures.hands)
+
+pub next-returns-in-Ok-Row-clause-alone : goal.next-returns-in-Ok-Row-clause-alone
+next-returns-in-Ok-Row-clause-alone g t c =
+    λ none. c.pull.ensures.alone (c.loop-row.invariant.alone none)
 
 pub next-returns-in-Item-clause-meant : goal.next-returns-in-Item-clause-meant
 next-returns-in-Item-clause-meant g t c =
-    next_item g.R.TableRow.table_of g.R.RowRef.shown (world c.args.self.now) (values_in c.args.slots.now) c.args.pipe.now c.args.base.now c.loop-pulled.base c.pull.new.self _ _ c.requires c.loop-pulled.invariant.meant
-    (subst (λ r. IfOk r (λ p. kept_stream g.R.TableRow.table_of g.R.RowRef.shown c.args.pipe.now.plan c.loop-pulled.base ≡ in_front (pulled_value p) (kept_stream g.R.TableRow.table_of g.R.RowRef.shown c.args.pipe.now.plan c.pull.new.self))) c.in-Ok.is c.pull.ensures.item)
-    (subst (λ o. outcome_stream o ≡ comes g.R.TableRow.table_of g.R.RowRef.shown (world c.args.self.now) (values_in c.args.slots.now) c.args.pipe.now (pulled_value c.in-Ok.pulled)) c.in-Item.is c.in_ok-item-in-Ok.ensures.meant)
+    next_item g.R.TableRow.table_of g.R.RowRef.shown (world c.args.self.now) (values_in c.args.slots.now) c.args.pipe.now c.args.base.now c.loop-row.base c.pull.new.self c.in-Ok-Item.item c.in-Item.item c.requires c.loop-row.invariant.meant
+    (subst (λ r. IfOk r (λ p. (kept_stream g.R.TableRow.table_of g.R.RowRef.shown c.args.pipe.now.plan c.loop-row.base) ≡ in_front (pulled_value p) (kept_stream g.R.TableRow.table_of g.R.RowRef.shown c.args.pipe.now.plan c.pull.new.self))) (c.in-Ok-Item.is ∙ ap (λ p. Ok p) c.in-Ok-Item.field-0-is) c.pull.ensures.item)
+    (subst (λ o. outcome_stream o ≡ comes g.R.TableRow.table_of g.R.RowRef.shown (world c.args.self.now) (values_in c.args.slots.now) c.args.pipe.now c.in-Ok-Item.item) c.in-Item.is c.in_ok-item-in-Ok-Item.ensures.meant)
+
+pub next-returns-in-Item-clause-pulled : goal.next-returns-in-Item-clause-pulled
+next-returns-in-Item-clause-pulled g t c =
+    pulled_more (world c.args.self.now) (facts c.args.self.now.sources) (λ w. is_covered_pipe (world c.args.self.now) w (values_in c.args.slots.now) c.args.pipe.now) _ (kept_stream g.R.TableRow.table_of g.R.RowRef.shown c.args.pipe.now.plan c.loop-row.base) (kept_stream g.R.TableRow.table_of g.R.RowRef.shown c.args.pipe.now.plan c.pull.new.self) _ _ _ c.in-Ok-Item.item
+    c.loop-row.invariant.pulled
+    (subst (λ r. IfOk r (λ p. (kept_stream g.R.TableRow.table_of g.R.RowRef.shown c.args.pipe.now.plan c.loop-row.base) ≡ in_front (pulled_value p) (kept_stream g.R.TableRow.table_of g.R.RowRef.shown c.args.pipe.now.plan c.pull.new.self))) (c.in-Ok-Item.is ∙ ap (λ p. Ok p) c.in-Ok-Item.field-0-is) c.pull.ensures.item)
+    (λ w start h i gr. c.pass_through.ensures.grows w start (stage_covered g.R.TableRow.table_of g.R.RowRef.shown (world c.args.self.now) w (values_in c.args.slots.now) c.args.pipe.now h) (source_covered g.R.TableRow.table_of g.R.RowRef.shown (world c.args.self.now) w (values_in c.args.slots.now) c.args.pipe.now h) (slots_pass g.R.TableRow.table_of g.R.RowRef.shown (world c.args.self.now) w (values_in c.args.slots.now) c.args.pipe.now h) i gr)
+
+pub next-returns-in-Item-clause-hands : goal.next-returns-in-Item-clause-hands
+next-returns-in-Item-clause-hands g t c =
+    hands_item g.R.TableRow.table_of g.R.RowRef.shown (world c.args.self.now) (values_in c.args.slots.now) c.args.pipe.now c.requires (rows_to_come c.args.base.now) (handed_out c.args.base.now) (rows_to_come c.loop-row.base) (handed_out c.loop-row.base) (rows_to_come c.pull.new.self) (handed_out c.pull.new.self) c.loop-row.invariant.passes
+    (of_pulled.Item c.in-Ok-Item.item) c.in-Item.item (subst (λ r. HandsOut g.R.TableRow.table_of g.R.RowRef.shown c.args.pipe.now.plan (rows_to_come c.loop-row.base) (handed_out c.loop-row.base) r (rows_to_come c.pull.new.self) (handed_out c.pull.new.self)) (c.in-Ok-Item.is ∙ ap (λ p. Ok p) c.in-Ok-Item.field-0-is) c.pull.ensures.hands)
+    (subst (λ o. outcome_stream o ≡ comes g.R.TableRow.table_of g.R.RowRef.shown (world c.args.self.now) (values_in c.args.slots.now) c.args.pipe.now c.in-Ok-Item.item) c.in-Item.is c.in_ok-item-in-Ok-Item.ensures.meant)
+
+pub next-returns-in-Item-clause-within : goal.next-returns-in-Item-clause-within
+next-returns-in-Item-clause-within g t c =
+    at_most g.R.TableRow.table_of g.R.RowRef.shown (world c.args.self.now) (values_in c.args.slots.now) c.args.pipe.now c.requires (rows_to_come c.args.base.now) (handed_out c.args.base.now) (rows_to_come c.loop-row.base) (handed_out c.loop-row.base) (rows_to_come c.pull.new.self) (handed_out c.pull.new.self) c.loop-row.invariant.passes (of_pulled.Item c.in-Ok-Item.item)
+    (subst (λ r. HandsOut g.R.TableRow.table_of g.R.RowRef.shown c.args.pipe.now.plan (rows_to_come c.loop-row.base) (handed_out c.loop-row.base) r (rows_to_come c.pull.new.self) (handed_out c.pull.new.self)) (c.in-Ok-Item.is ∙ ap (λ p. Ok p) c.in-Ok-Item.field-0-is) c.pull.ensures.hands)
+
+pub next-returns-in-Item-clause-alone : goal.next-returns-in-Item-clause-alone
+next-returns-in-Item-clause-alone g t c =
+    λ none. c.pull.ensures.alone (c.loop-row.invariant.alone none)
 
 pub next-returns-in-Fault-clause-meant : goal.next-returns-in-Fault-clause-meant
 next-returns-in-Fault-clause-meant g t c =
-    next_fault g.R.TableRow.table_of g.R.RowRef.shown (world c.args.self.now) (values_in c.args.slots.now) c.args.pipe.now c.args.base.now c.loop-pulled.base c.pull.new.self _ _ c.requires c.loop-pulled.invariant.meant
-    (subst (λ r. IfOk r (λ p. kept_stream g.R.TableRow.table_of g.R.RowRef.shown c.args.pipe.now.plan c.loop-pulled.base ≡ in_front (pulled_value p) (kept_stream g.R.TableRow.table_of g.R.RowRef.shown c.args.pipe.now.plan c.pull.new.self))) c.in-Ok.is c.pull.ensures.item)
-    (subst (λ o. outcome_stream o ≡ comes g.R.TableRow.table_of g.R.RowRef.shown (world c.args.self.now) (values_in c.args.slots.now) c.args.pipe.now (pulled_value c.in-Ok.pulled)) c.in-Fault.is c.in_ok-item-in-Ok.ensures.meant)
+    next_fault g.R.TableRow.table_of g.R.RowRef.shown (world c.args.self.now) (values_in c.args.slots.now) c.args.pipe.now c.args.base.now c.loop-row.base c.pull.new.self c.in-Ok-Item.item c.in-Fault.fault c.requires c.loop-row.invariant.meant
+    (subst (λ r. IfOk r (λ p. (kept_stream g.R.TableRow.table_of g.R.RowRef.shown c.args.pipe.now.plan c.loop-row.base) ≡ in_front (pulled_value p) (kept_stream g.R.TableRow.table_of g.R.RowRef.shown c.args.pipe.now.plan c.pull.new.self))) (c.in-Ok-Item.is ∙ ap (λ p. Ok p) c.in-Ok-Item.field-0-is) c.pull.ensures.item)
+    (subst (λ o. outcome_stream o ≡ comes g.R.TableRow.table_of g.R.RowRef.shown (world c.args.self.now) (values_in c.args.slots.now) c.args.pipe.now c.in-Ok-Item.item) c.in-Fault.is c.in_ok-item-in-Ok-Item.ensures.meant)
+
+pub next-returns-in-Fault-clause-pulled : goal.next-returns-in-Fault-clause-pulled
+next-returns-in-Fault-clause-pulled g t c =
+    pulled_more (world c.args.self.now) (facts c.args.self.now.sources) (λ w. is_covered_pipe (world c.args.self.now) w (values_in c.args.slots.now) c.args.pipe.now) _ (kept_stream g.R.TableRow.table_of g.R.RowRef.shown c.args.pipe.now.plan c.loop-row.base) (kept_stream g.R.TableRow.table_of g.R.RowRef.shown c.args.pipe.now.plan c.pull.new.self) _ _ _ c.in-Ok-Item.item
+    c.loop-row.invariant.pulled
+    (subst (λ r. IfOk r (λ p. (kept_stream g.R.TableRow.table_of g.R.RowRef.shown c.args.pipe.now.plan c.loop-row.base) ≡ in_front (pulled_value p) (kept_stream g.R.TableRow.table_of g.R.RowRef.shown c.args.pipe.now.plan c.pull.new.self))) (c.in-Ok-Item.is ∙ ap (λ p. Ok p) c.in-Ok-Item.field-0-is) c.pull.ensures.item)
+    (λ w start h i gr. c.pass_through.ensures.grows w start (stage_covered g.R.TableRow.table_of g.R.RowRef.shown (world c.args.self.now) w (values_in c.args.slots.now) c.args.pipe.now h) (source_covered g.R.TableRow.table_of g.R.RowRef.shown (world c.args.self.now) w (values_in c.args.slots.now) c.args.pipe.now h) (slots_pass g.R.TableRow.table_of g.R.RowRef.shown (world c.args.self.now) w (values_in c.args.slots.now) c.args.pipe.now h) i gr)
+
+pub next-returns-in-Fault-clause-hands : goal.next-returns-in-Fault-clause-hands
+next-returns-in-Fault-clause-hands g t c =
+    hands_fault g.R.TableRow.table_of g.R.RowRef.shown (world c.args.self.now) (values_in c.args.slots.now) c.args.pipe.now c.requires (rows_to_come c.args.base.now) (handed_out c.args.base.now) (rows_to_come c.loop-row.base) (handed_out c.loop-row.base) (rows_to_come c.pull.new.self) (handed_out c.pull.new.self) c.loop-row.invariant.passes
+    (of_pulled.Item c.in-Ok-Item.item) c.in-Fault.fault (subst (λ r. HandsOut g.R.TableRow.table_of g.R.RowRef.shown c.args.pipe.now.plan (rows_to_come c.loop-row.base) (handed_out c.loop-row.base) r (rows_to_come c.pull.new.self) (handed_out c.pull.new.self)) (c.in-Ok-Item.is ∙ ap (λ p. Ok p) c.in-Ok-Item.field-0-is) c.pull.ensures.hands)
+    (subst (λ o. outcome_stream o ≡ comes g.R.TableRow.table_of g.R.RowRef.shown (world c.args.self.now) (values_in c.args.slots.now) c.args.pipe.now c.in-Ok-Item.item) c.in-Fault.is c.in_ok-item-in-Ok-Item.ensures.meant)
+
+pub next-returns-in-Fault-clause-within : goal.next-returns-in-Fault-clause-within
+next-returns-in-Fault-clause-within g t c =
+    at_most g.R.TableRow.table_of g.R.RowRef.shown (world c.args.self.now) (values_in c.args.slots.now) c.args.pipe.now c.requires (rows_to_come c.args.base.now) (handed_out c.args.base.now) (rows_to_come c.loop-row.base) (handed_out c.loop-row.base) (rows_to_come c.pull.new.self) (handed_out c.pull.new.self) c.loop-row.invariant.passes (of_pulled.Item c.in-Ok-Item.item)
+    (subst (λ r. HandsOut g.R.TableRow.table_of g.R.RowRef.shown c.args.pipe.now.plan (rows_to_come c.loop-row.base) (handed_out c.loop-row.base) r (rows_to_come c.pull.new.self) (handed_out c.pull.new.self)) (c.in-Ok-Item.is ∙ ap (λ p. Ok p) c.in-Ok-Item.field-0-is) c.pull.ensures.hands)
+
+pub next-returns-in-Fault-clause-alone : goal.next-returns-in-Fault-clause-alone
+next-returns-in-Fault-clause-alone g t c =
+    λ none. c.pull.ensures.alone (c.loop-row.invariant.alone none)
+
+pub next-returns-in_err-item-in-Ok-Item-clause-pulled : goal.next-returns-in_err-item-in-Ok-Item-clause-pulled
+next-returns-in_err-item-in-Ok-Item-clause-pulled g t c =
+    pulled_more (world c.args.self.now) (facts c.args.self.now.sources) (λ w. is_covered_pipe (world c.args.self.now) w (values_in c.args.slots.now) c.args.pipe.now) _ (kept_stream g.R.TableRow.table_of g.R.RowRef.shown c.args.pipe.now.plan c.loop-row.base) (kept_stream g.R.TableRow.table_of g.R.RowRef.shown c.args.pipe.now.plan c.pull.new.self) _ _ _ c.in-Ok-Item.item
+    c.loop-row.invariant.pulled
+    (subst (λ r. IfOk r (λ p. (kept_stream g.R.TableRow.table_of g.R.RowRef.shown c.args.pipe.now.plan c.loop-row.base) ≡ in_front (pulled_value p) (kept_stream g.R.TableRow.table_of g.R.RowRef.shown c.args.pipe.now.plan c.pull.new.self))) (c.in-Ok-Item.is ∙ ap (λ p. Ok p) c.in-Ok-Item.field-0-is) c.pull.ensures.item)
+    (λ w start h i gr. c.pass_through.ensures.grows w start (stage_covered g.R.TableRow.table_of g.R.RowRef.shown (world c.args.self.now) w (values_in c.args.slots.now) c.args.pipe.now h) (source_covered g.R.TableRow.table_of g.R.RowRef.shown (world c.args.self.now) w (values_in c.args.slots.now) c.args.pipe.now h) (slots_pass g.R.TableRow.table_of g.R.RowRef.shown (world c.args.self.now) w (values_in c.args.slots.now) c.args.pipe.now h) i gr)
+
+pub next-returns-in_err-item-in-Ok-Item-clause-within : goal.next-returns-in_err-item-in-Ok-Item-clause-within
+next-returns-in_err-item-in-Ok-Item-clause-within g t c =
+    at_most g.R.TableRow.table_of g.R.RowRef.shown (world c.args.self.now) (values_in c.args.slots.now) c.args.pipe.now c.requires (rows_to_come c.args.base.now) (handed_out c.args.base.now) (rows_to_come c.loop-row.base) (handed_out c.loop-row.base) (rows_to_come c.pull.new.self) (handed_out c.pull.new.self) c.loop-row.invariant.passes (of_pulled.Item c.in-Ok-Item.item)
+    (subst (λ r. HandsOut g.R.TableRow.table_of g.R.RowRef.shown c.args.pipe.now.plan (rows_to_come c.loop-row.base) (handed_out c.loop-row.base) r (rows_to_come c.pull.new.self) (handed_out c.pull.new.self)) (c.in-Ok-Item.is ∙ ap (λ p. Ok p) c.in-Ok-Item.field-0-is) c.pull.ensures.hands)
+
+pub next-returns-in_err-item-in-Ok-Item-clause-alone : goal.next-returns-in_err-item-in-Ok-Item-clause-alone
+next-returns-in_err-item-in-Ok-Item-clause-alone g t c =
+    λ none. c.pull.ensures.alone (c.loop-row.invariant.alone none)
 
 pub next-returns-in-Err-clause-meant : goal.next-returns-in-Err-clause-meant
 next-returns-in-Err-clause-meant g t c =
-    next_ended g.R.TableRow.table_of g.R.RowRef.shown (world c.args.self.now) (values_in c.args.slots.now) c.args.pipe.now c.args.base.now c.loop-pulled.base _ c.requires c.loop-pulled.invariant.meant
-    (subst (λ r. IfErr r (λ e. kept_stream g.R.TableRow.table_of g.R.RowRef.shown c.args.pipe.now.plan c.loop-pulled.base ≡ ([], e))) c.in-Err.is c.pull.ensures.end)
+    next_ended g.R.TableRow.table_of g.R.RowRef.shown (world c.args.self.now) (values_in c.args.slots.now) c.args.pipe.now c.args.base.now c.loop-row.base _ c.requires c.loop-row.invariant.meant
+    (subst (λ r. IfErr r (λ e. (kept_stream g.R.TableRow.table_of g.R.RowRef.shown c.args.pipe.now.plan c.loop-row.base) ≡ ([], e))) c.in-Err.is c.pull.ensures.end)
+
+pub next-returns-in-Err-clause-pulled : goal.next-returns-in-Err-clause-pulled
+next-returns-in-Err-clause-pulled g t c =
+    pulled_over (world c.args.self.now) (facts c.args.self.now.sources) (λ w. is_covered_pipe (world c.args.self.now) w (values_in c.args.slots.now) c.args.pipe.now) _ (kept_stream g.R.TableRow.table_of g.R.RowRef.shown c.args.pipe.now.plan c.loop-row.base) (kept_stream g.R.TableRow.table_of g.R.RowRef.shown c.args.pipe.now.plan c.pull.new.self) _ _ c.in-Err.end c.loop-row.invariant.pulled
+    (subst (λ r. IfErr r (λ e. (kept_stream g.R.TableRow.table_of g.R.RowRef.shown c.args.pipe.now.plan c.loop-row.base) ≡ ([], e))) c.in-Err.is c.pull.ensures.end)
+    (subst (λ r. IfErr r (λ e. (kept_stream g.R.TableRow.table_of g.R.RowRef.shown c.args.pipe.now.plan c.pull.new.self).0 ≡ [])) c.in-Err.is c.pull.ensures.over)
+
+pub next-returns-in-Err-clause-hands : goal.next-returns-in-Err-clause-hands
+next-returns-in-Err-clause-hands g t c =
+    hands_end g.R.TableRow.table_of g.R.RowRef.shown (world c.args.self.now) (values_in c.args.slots.now) c.args.pipe.now c.requires (rows_to_come c.args.base.now) (handed_out c.args.base.now) (rows_to_come c.loop-row.base) (handed_out c.loop-row.base) (rows_to_come c.pull.new.self) (handed_out c.pull.new.self) c.loop-row.invariant.passes c.in-Err.end
+    (subst (λ r. HandsOut g.R.TableRow.table_of g.R.RowRef.shown c.args.pipe.now.plan (rows_to_come c.loop-row.base) (handed_out c.loop-row.base) r (rows_to_come c.pull.new.self) (handed_out c.pull.new.self)) c.in-Err.is c.pull.ensures.hands)
+
+pub next-returns-in-Err-clause-within : goal.next-returns-in-Err-clause-within
+next-returns-in-Err-clause-within g t c =
+    at_most_end g.R.TableRow.table_of g.R.RowRef.shown (world c.args.self.now) (values_in c.args.slots.now) c.args.pipe.now c.requires (rows_to_come c.args.base.now) (handed_out c.args.base.now) (rows_to_come c.loop-row.base) (handed_out c.loop-row.base) (rows_to_come c.pull.new.self) (handed_out c.pull.new.self) c.loop-row.invariant.passes c.in-Err.end
+    (subst (λ r. HandsOut g.R.TableRow.table_of g.R.RowRef.shown c.args.pipe.now.plan (rows_to_come c.loop-row.base) (handed_out c.loop-row.base) r (rows_to_come c.pull.new.self) (handed_out c.pull.new.self)) c.in-Err.is c.pull.ensures.hands)
+
+pub next-returns-in-Err-clause-alone : goal.next-returns-in-Err-clause-alone
+next-returns-in-Err-clause-alone g t c =
+    λ none. c.pull.ensures.alone (c.loop-row.invariant.alone none)
+
+pub next-loop-row-init : goal.next-loop-row-init
+next-loop-row-init g t c =
+    record {
+      meant = refl;
+      pulled = pulled_none (world c.args.self.now) (facts c.args.self.now.sources) (λ w. is_covered_pipe (world c.args.self.now) w (values_in c.args.slots.now) c.args.pipe.now) _ _;
+      passes = passes_none g.R.TableRow.table_of g.R.RowRef.shown (world c.args.self.now) (values_in c.args.slots.now) c.args.pipe.now (rows_to_come c.args.base.now) (handed_out c.args.base.now);
+      alone = λ none. none;
+    }
+
+pub next-loop-row-preserved : goal.next-loop-row-preserved
+next-loop-row-preserved g t c =
+    record {
+      meant = next_dropped g.R.TableRow.table_of g.R.RowRef.shown (world c.args.self.now) (values_in c.args.slots.now) c.args.pipe.now c.args.base.now c.loop-row.base c.pull.new.self c.in-Ok-Item.item c.requires c.loop-row.invariant.meant
+          (subst (λ r. IfOk r (λ p. (kept_stream g.R.TableRow.table_of g.R.RowRef.shown c.args.pipe.now.plan c.loop-row.base) ≡ in_front (pulled_value p) (kept_stream g.R.TableRow.table_of g.R.RowRef.shown c.args.pipe.now.plan c.pull.new.self))) (c.in-Ok-Item.is ∙ ap (λ p. Ok p) c.in-Ok-Item.field-0-is) c.pull.ensures.item)
+          (subst (λ o. outcome_stream o ≡ comes g.R.TableRow.table_of g.R.RowRef.shown (world c.args.self.now) (values_in c.args.slots.now) c.args.pipe.now c.in-Ok-Item.item) c.in-Dropped.is c.in_ok-item-in-Ok-Item.ensures.meant);
+      pulled = pulled_more (world c.args.self.now) (facts c.args.self.now.sources) (λ w. is_covered_pipe (world c.args.self.now) w (values_in c.args.slots.now) c.args.pipe.now) _ (kept_stream g.R.TableRow.table_of g.R.RowRef.shown c.args.pipe.now.plan c.loop-row.base) (kept_stream g.R.TableRow.table_of g.R.RowRef.shown c.args.pipe.now.plan c.pull.new.self) _ _ _ c.in-Ok-Item.item
+          c.loop-row.invariant.pulled
+          (subst (λ r. IfOk r (λ p. (kept_stream g.R.TableRow.table_of g.R.RowRef.shown c.args.pipe.now.plan c.loop-row.base) ≡ in_front (pulled_value p) (kept_stream g.R.TableRow.table_of g.R.RowRef.shown c.args.pipe.now.plan c.pull.new.self))) (c.in-Ok-Item.is ∙ ap (λ p. Ok p) c.in-Ok-Item.field-0-is) c.pull.ensures.item)
+          (λ w start h i gr. c.pass_through.ensures.grows w start (stage_covered g.R.TableRow.table_of g.R.RowRef.shown (world c.args.self.now) w (values_in c.args.slots.now) c.args.pipe.now h) (source_covered g.R.TableRow.table_of g.R.RowRef.shown (world c.args.self.now) w (values_in c.args.slots.now) c.args.pipe.now h) (slots_pass g.R.TableRow.table_of g.R.RowRef.shown (world c.args.self.now) w (values_in c.args.slots.now) c.args.pipe.now h) i gr);
+      passes = passes_dropped g.R.TableRow.table_of g.R.RowRef.shown (world c.args.self.now) (values_in c.args.slots.now) c.args.pipe.now c.requires (rows_to_come c.args.base.now) (handed_out c.args.base.now) (rows_to_come c.loop-row.base) (handed_out c.loop-row.base) (rows_to_come c.pull.new.self) (handed_out c.pull.new.self) c.loop-row.invariant.passes
+          (of_pulled.Item c.in-Ok-Item.item) (subst (λ r. HandsOut g.R.TableRow.table_of g.R.RowRef.shown c.args.pipe.now.plan (rows_to_come c.loop-row.base) (handed_out c.loop-row.base) r (rows_to_come c.pull.new.self) (handed_out c.pull.new.self)) (c.in-Ok-Item.is ∙ ap (λ p. Ok p) c.in-Ok-Item.field-0-is) c.pull.ensures.hands)
+          (subst (λ o. outcome_stream o ≡ comes g.R.TableRow.table_of g.R.RowRef.shown (world c.args.self.now) (values_in c.args.slots.now) c.args.pipe.now c.in-Ok-Item.item) c.in-Dropped.is c.in_ok-item-in-Ok-Item.ensures.meant);
+      alone = λ none. c.pull.ensures.alone (c.loop-row.invariant.alone none);
+    }
+
+pub pass_row-returns-in-None-clause-grows : goal.pass_row-returns-in-None-clause-grows
+pass_row-returns-in-None-clause-grows g t c =
+    λ w start h s i gr.
+    c.give.ensures.grows w start (subst (λ st. is_covered_stage (world c.args.self.now) w st ≡ true) c.in-Select.is h) s (passing_row w (value.Row c.args.row) c.args.row refl i) gr
+
+pub tally_item-returns-in-Select-clause-grows : goal.tally_item-returns-in-Select-clause-grows
+tally_item-returns-in-Select-clause-grows g t c =
+    λ w start h s i gr.
+    c.tally_select.ensures.grows w start (subst (λ st. is_covered_stage (world c.args.self.now) w st ≡ true) c.in-Select.is h) s i gr
+
+pub tally_row-returns-in-None-clause-grows : goal.tally_row-returns-in-None-clause-grows
+tally_row-returns-in-None-clause-grows g t c =
+    λ w start h s i gr.
+    c.tally_select.ensures.grows w start (subst (λ st. is_covered_stage (world c.args.self.now) w st ≡ true) c.in-Select.is h) s
+    (passing_row w (value.Row c.again.result) c.again.result refl (ap w.row c.again.ensures ∙ i)) gr
+
+pub tally_next-returns-in-Row-clause-meant : goal.tally_next-returns-in-Row-clause-meant
+tally_next-returns-in-Row-clause-meant g t c =
+    subst (λ p. IfOk c.tally_row.result (Tallies c.args.tally (comes g.R.TableRow.table_of g.R.RowRef.shown (world c.args.self.now) (values_in c.args.slots.now) c.args.pipe.now (pulled_value p)))) (sym c.in-Row.is)
+    (subst (λ (s : Stream (Value _)). IfOk c.tally_row.result (Tallies c.args.tally s)) (sym (row_says g.R.TableRow.table_of g.R.RowRef.shown (world c.args.self.now) (values_in c.args.slots.now) c.args.pipe.now.stage c.args.pipe.now.source.now c.args.pipe.now.plan c.requires.planned c.in-Row.row true (subst (λ p. IsPulled g.R.TableRow.table_of g.R.RowRef.shown c.args.pipe.now.plan p) c.in-Row.is c.requires.pulled))) c.tally_row.ensures.meant)
+
+pub tally_next-returns-in-Row-clause-grows : goal.tally_next-returns-in-Row-clause-grows
+tally_next-returns-in-Row-clause-grows g t c =
+    λ w start h i gr.
+    c.tally_row.ensures.grows w start (stage_covered g.R.TableRow.table_of g.R.RowRef.shown (world c.args.self.now) w (values_in c.args.slots.now) c.args.pipe.now h) (slots_pass g.R.TableRow.table_of g.R.RowRef.shown (world c.args.self.now) w (values_in c.args.slots.now) c.args.pipe.now h)
+    (row_passes w (pulled_value c.args.pulled) c.in-Row.row (ap pulled_value c.in-Row.is) i) gr
+
+pub tally_next-returns-in-Item-clause-grows : goal.tally_next-returns-in-Item-clause-grows
+tally_next-returns-in-Item-clause-grows g t c =
+    λ w start h i gr.
+    c.tally_through.ensures.grows w start (stage_covered g.R.TableRow.table_of g.R.RowRef.shown (world c.args.self.now) w (values_in c.args.slots.now) c.args.pipe.now h) (source_covered g.R.TableRow.table_of g.R.RowRef.shown (world c.args.self.now) w (values_in c.args.slots.now) c.args.pipe.now h) (slots_pass g.R.TableRow.table_of g.R.RowRef.shown (world c.args.self.now) w (values_in c.args.slots.now) c.args.pipe.now h)
+    (ap (λ p. has_watched_rows w (pulled_value p)) (sym c.in-Item.is) ∙ i) gr
+
+pub tally_pulled-loop-pulled-init : goal.tally_pulled-loop-pulled-init
+tally_pulled-loop-pulled-init g t c =
+    record {
+      meant = tally_begins c.args.of.now c.args.tally _ _ (left_opened (world c.args.self.now) (values_in c.args.slots.now) _ _ c.in_ok-base.base c.in_ok-base.ensures.meant);
+      log = opened (world c.args.self.now) (facts c.args.self.now.sources) g.R.TableRow.table_of g.R.RowRef.shown (values_in c.args.slots.now) c.args.pipe.now (Covers (world c.args.self.now) (values_in c.args.slots.now) c.args.pipe.now) _ _ c.in_ok-base.base (λ w start p gr. c.open.ensures.grows w start p.source_in p.slots_in gr) (λ w p. c.in_ok-base.ensures.from w p.source_in p.slots_in);
+    }
+
+pub tally_pulled-returns-in_err-next-in-Ok-clause-grows : goal.tally_pulled-returns-in_err-next-in-Ok-clause-grows
+tally_pulled-returns-in_err-next-in-Ok-clause-grows g t c =
+    λ w start a b s gr.
+    (took (world c.args.self.now) (facts c.args.self.now.sources) g.R.TableRow.table_of g.R.RowRef.shown (values_in c.args.slots.now) c.args.pipe.now (Covers (world c.args.self.now) (values_in c.args.slots.now) c.args.pipe.now) (λ w p. p) _ _ _ c.loop-pulled.base c.pull.new.self (pulled_value c.in-Ok.pulled) c.loop-pulled.invariant.log
+    (subst (λ r. IfOk r (λ p. (kept_stream g.R.TableRow.table_of g.R.RowRef.shown c.args.pipe.now.plan c.loop-pulled.base) ≡ in_front (pulled_value p) (kept_stream g.R.TableRow.table_of g.R.RowRef.shown c.args.pipe.now.plan c.pull.new.self))) c.in-Ok.is c.pull.ensures.item)
+    (λ w start h i gr. c.tally_next.ensures.grows w start h i gr)).grows w start (covers_pipe (world c.args.self.now) (values_in c.args.slots.now) c.args.pipe.now w a b s) gr
+
+pub tally_pulled-loop-pulled-smaller : goal.tally_pulled-loop-pulled-smaller
+tally_pulled-loop-pulled-smaller g t c =
+    fewer (kept_stream g.R.TableRow.table_of g.R.RowRef.shown c.args.pipe.now.plan c.loop-pulled.base) (kept_stream g.R.TableRow.table_of g.R.RowRef.shown c.args.pipe.now.plan c.pull.new.self) (pulled_value c.in-Ok.pulled) (subst (λ r. IfOk r (λ p. (kept_stream g.R.TableRow.table_of g.R.RowRef.shown c.args.pipe.now.plan c.loop-pulled.base) ≡ in_front (pulled_value p) (kept_stream g.R.TableRow.table_of g.R.RowRef.shown c.args.pipe.now.plan c.pull.new.self))) c.in-Ok.is c.pull.ensures.item)
+
+pub tally_pulled-loop-pulled-preserved : goal.tally_pulled-loop-pulled-preserved
+tally_pulled-loop-pulled-preserved g t c =
+    record {
+      meant = tally_on c.args.of.now c.loop-pulled.tally _ (Ok c.in-Ok-2.next) (items_left (world c.args.self.now) (values_in c.args.slots.now) c.args.pipe.now c.loop-pulled.base) (comes g.R.TableRow.table_of g.R.RowRef.shown (world c.args.self.now) (values_in c.args.slots.now) c.args.pipe.now (pulled_value c.in-Ok.pulled)) (items_left (world c.args.self.now) (values_in c.args.slots.now) c.args.pipe.now c.pull.new.self) _
+          (pulled g.R.TableRow.table_of g.R.RowRef.shown (world c.args.self.now) (values_in c.args.slots.now) c.args.pipe.now c.loop-pulled.base c.pull.new.self (pulled_value c.in-Ok.pulled) c.requires (subst (λ r. IfOk r (λ p. (kept_stream g.R.TableRow.table_of g.R.RowRef.shown c.args.pipe.now.plan c.loop-pulled.base) ≡ in_front (pulled_value p) (kept_stream g.R.TableRow.table_of g.R.RowRef.shown c.args.pipe.now.plan c.pull.new.self))) c.in-Ok.is c.pull.ensures.item))
+          c.in_ok-next-in-Ok.ensures.meant c.in-Ok-2.is c.loop-pulled.invariant.meant;
+      log = took (world c.args.self.now) (facts c.args.self.now.sources) g.R.TableRow.table_of g.R.RowRef.shown (values_in c.args.slots.now) c.args.pipe.now (Covers (world c.args.self.now) (values_in c.args.slots.now) c.args.pipe.now) (λ w p. p) _ _ _ c.loop-pulled.base c.pull.new.self (pulled_value c.in-Ok.pulled) c.loop-pulled.invariant.log
+          (subst (λ r. IfOk r (λ p. (kept_stream g.R.TableRow.table_of g.R.RowRef.shown c.args.pipe.now.plan c.loop-pulled.base) ≡ in_front (pulled_value p) (kept_stream g.R.TableRow.table_of g.R.RowRef.shown c.args.pipe.now.plan c.pull.new.self))) c.in-Ok.is c.pull.ensures.item)
+          (λ w start h i gr. c.tally_next.ensures.grows w start h i gr);
+    }
+
+pub tally_pulled-returns-in-Err-2-clause-meant : goal.tally_pulled-returns-in-Err-2-clause-meant
+tally_pulled-returns-in-Err-2-clause-meant g t c =
+    ap as_value (sym (tally_on c.args.of.now c.loop-pulled.tally _ (Err c.in-Err-2.fault) (items_left (world c.args.self.now) (values_in c.args.slots.now) c.args.pipe.now c.loop-pulled.base) (comes g.R.TableRow.table_of g.R.RowRef.shown (world c.args.self.now) (values_in c.args.slots.now) c.args.pipe.now (pulled_value c.in-Ok.pulled)) (items_left (world c.args.self.now) (values_in c.args.slots.now) c.args.pipe.now c.pull.new.self) _
+    (pulled g.R.TableRow.table_of g.R.RowRef.shown (world c.args.self.now) (values_in c.args.slots.now) c.args.pipe.now c.loop-pulled.base c.pull.new.self (pulled_value c.in-Ok.pulled) c.requires (subst (λ r. IfOk r (λ p. (kept_stream g.R.TableRow.table_of g.R.RowRef.shown c.args.pipe.now.plan c.loop-pulled.base) ≡ in_front (pulled_value p) (kept_stream g.R.TableRow.table_of g.R.RowRef.shown c.args.pipe.now.plan c.pull.new.self))) c.in-Ok.is c.pull.ensures.item))
+    c.in_ok-next-in-Ok.ensures.meant c.in-Err-2.is c.loop-pulled.invariant.meant))
+
+pub tally_pulled-returns-in-Err-2-clause-grows : goal.tally_pulled-returns-in-Err-2-clause-grows
+tally_pulled-returns-in-Err-2-clause-grows g t c =
+    λ w start a b s gr.
+    (took (world c.args.self.now) (facts c.args.self.now.sources) g.R.TableRow.table_of g.R.RowRef.shown (values_in c.args.slots.now) c.args.pipe.now (Covers (world c.args.self.now) (values_in c.args.slots.now) c.args.pipe.now) (λ w p. p) _ _ _ c.loop-pulled.base c.pull.new.self (pulled_value c.in-Ok.pulled) c.loop-pulled.invariant.log
+    (subst (λ r. IfOk r (λ p. (kept_stream g.R.TableRow.table_of g.R.RowRef.shown c.args.pipe.now.plan c.loop-pulled.base) ≡ in_front (pulled_value p) (kept_stream g.R.TableRow.table_of g.R.RowRef.shown c.args.pipe.now.plan c.pull.new.self))) c.in-Ok.is c.pull.ensures.item)
+    (λ w start h i gr. c.tally_next.ensures.grows w start h i gr)).grows w start (covers_pipe (world c.args.self.now) (values_in c.args.slots.now) c.args.pipe.now w a b s) gr
+
+pub tally_items-returns-clause-meant : goal.tally_items-returns-clause-meant
+tally_items-returns-clause-meant g t c =
+    subst (λ m. IsAnswer (as_value m) c.answer.result)
+    (staged_ends (world c.args.self.now) (values_in c.args.slots.now) c.args.stage.now c.args.of.now c.loop-item.tally c.args.items.now _ c.args.end _ c.loop-item-test.false c.loop-item.invariant.meant) c.answer.ensures
+
+pub tally_row-returns-in-Some-clause-meant : goal.tally_row-returns-in-Some-clause-meant
+tally_row-returns-in-Some-clause-meant g t c =
+    cell_of_row (world c.args.self.now) (values_in c.args.slots.now) c.args.pipe.now c.args.row.now g.R.TableRow.table_of g.R.RowRef.shown c.args.tally _ _ _ c.in-Select.is c.requires.planned c.requires.passes (sym c.in-Some.ensures) c.with_scalar.ensures
+
+pub tally_pulled-returns-in-Err-clause-grows : goal.tally_pulled-returns-in-Err-clause-grows
+tally_pulled-returns-in-Err-clause-grows g t c =
+    λ w start a b s gr.
+    c.loop-pulled.invariant.log.grows w start (covers_pipe (world c.args.self.now) (values_in c.args.slots.now) c.args.pipe.now w a b s) gr
+
+pub tally_pulled-returns-in-Err-clause-meant : goal.tally_pulled-returns-in-Err-clause-meant
+tally_pulled-returns-in-Err-clause-meant g t c =
+    subst (λ m. IsAnswer (as_value m) c.answer.result) (tally_over g.R.TableRow.table_of g.R.RowRef.shown (world c.args.self.now) (values_in c.args.slots.now) c.args.pipe.now c.loop-pulled.base c.args.of.now c.loop-pulled.tally c.in-Err.end _ c.requires (subst (λ r. IfErr r (λ e. (kept_stream g.R.TableRow.table_of g.R.RowRef.shown c.args.pipe.now.plan c.loop-pulled.base) ≡ ([], e))) c.in-Err.is c.pull.ensures.end) c.loop-pulled.invariant.meant) c.answer.ensures
 
 pub evaluate-returns-in-First-clause-grows : goal.evaluate-returns-in-First-clause-grows
 evaluate-returns-in-First-clause-grows g t c =
@@ -524,124 +1039,6 @@ pass_stage-returns-in-Select-clause-grows g t c =
     λ w start h s i gr.
     c.pass_select.ensures.grows w start (subst (λ st. is_covered_stage (world c.args.self.now) w st ≡ true) c.in-Select.is h) s i gr
 
-pub pass_row-returns-in-None-clause-grows : goal.pass_row-returns-in-None-clause-grows
-pass_row-returns-in-None-clause-grows g t c =
-    λ w start h s i gr.
-    c.pass_select.ensures.grows w start (subst (λ st. is_covered_stage (world c.args.self.now) w st ≡ true) c.in-Select.is h) s (passing_row w (value.Row c.again-in-None.result) c.again-in-None.result refl (ap w.row c.again-in-None.ensures ∙ i)) gr
-
-pub pass_pulled-returns-in-Row-clause-grows : goal.pass_pulled-returns-in-Row-clause-grows
-pass_pulled-returns-in-Row-clause-grows g t c =
-    λ w start h i gr.
-    c.pass_row.ensures.grows w start (stage_covered g.R.TableRow.table_of g.R.RowRef.shown (world c.args.self.now) w (values_in c.args.slots.now) c.args.pipe.now h) (slots_pass g.R.TableRow.table_of g.R.RowRef.shown (world c.args.self.now) w (values_in c.args.slots.now) c.args.pipe.now h)
-    (row_passes w (pulled_value c.args.pulled) c.in-Row.row (ap pulled_value c.in-Row.is) i) gr
-
-pub pass_pulled-returns-in-Item-clause-grows : goal.pass_pulled-returns-in-Item-clause-grows
-pass_pulled-returns-in-Item-clause-grows g t c =
-    λ w start h i gr.
-    c.pass_through.ensures.grows w start (stage_covered g.R.TableRow.table_of g.R.RowRef.shown (world c.args.self.now) w (values_in c.args.slots.now) c.args.pipe.now h) (source_covered g.R.TableRow.table_of g.R.RowRef.shown (world c.args.self.now) w (values_in c.args.slots.now) c.args.pipe.now h) (slots_pass g.R.TableRow.table_of g.R.RowRef.shown (world c.args.self.now) w (values_in c.args.slots.now) c.args.pipe.now h)
-    (ap (λ p. has_watched_rows w (pulled_value p)) (sym c.in-Item.is) ∙ i) gr
-
-pub next-returns-in_err-item-in-Ok-clause-pulled : goal.next-returns-in_err-item-in-Ok-clause-pulled
-next-returns-in_err-item-in-Ok-clause-pulled g t c =
-    pulled_more (world c.args.self.now) (facts c.args.self.now.sources) (λ w. is_covered_pipe (world c.args.self.now) w (values_in c.args.slots.now) c.args.pipe.now) _ (kept_stream g.R.TableRow.table_of g.R.RowRef.shown c.args.pipe.now.plan c.loop-pulled.base) (kept_stream g.R.TableRow.table_of g.R.RowRef.shown c.args.pipe.now.plan c.pull.new.self) _ _ _ (pulled_value c.in-Ok.pulled)
-    c.loop-pulled.invariant.pulled
-    (subst (λ r. IfOk r (λ p. (kept_stream g.R.TableRow.table_of g.R.RowRef.shown c.args.pipe.now.plan c.loop-pulled.base) ≡ in_front (pulled_value p) (kept_stream g.R.TableRow.table_of g.R.RowRef.shown c.args.pipe.now.plan c.pull.new.self))) c.in-Ok.is c.pull.ensures.item)
-    (λ w start h i gr. c.pass_pulled.ensures.grows w start h i gr)
-
-pub next-returns-in-Item-clause-pulled : goal.next-returns-in-Item-clause-pulled
-next-returns-in-Item-clause-pulled g t c =
-    pulled_more (world c.args.self.now) (facts c.args.self.now.sources) (λ w. is_covered_pipe (world c.args.self.now) w (values_in c.args.slots.now) c.args.pipe.now) _ (kept_stream g.R.TableRow.table_of g.R.RowRef.shown c.args.pipe.now.plan c.loop-pulled.base) (kept_stream g.R.TableRow.table_of g.R.RowRef.shown c.args.pipe.now.plan c.pull.new.self) _ _ _ (pulled_value c.in-Ok.pulled)
-    c.loop-pulled.invariant.pulled
-    (subst (λ r. IfOk r (λ p. (kept_stream g.R.TableRow.table_of g.R.RowRef.shown c.args.pipe.now.plan c.loop-pulled.base) ≡ in_front (pulled_value p) (kept_stream g.R.TableRow.table_of g.R.RowRef.shown c.args.pipe.now.plan c.pull.new.self))) c.in-Ok.is c.pull.ensures.item)
-    (λ w start h i gr. c.pass_pulled.ensures.grows w start h i gr)
-
-pub next-returns-in-Fault-clause-pulled : goal.next-returns-in-Fault-clause-pulled
-next-returns-in-Fault-clause-pulled g t c =
-    pulled_more (world c.args.self.now) (facts c.args.self.now.sources) (λ w. is_covered_pipe (world c.args.self.now) w (values_in c.args.slots.now) c.args.pipe.now) _ (kept_stream g.R.TableRow.table_of g.R.RowRef.shown c.args.pipe.now.plan c.loop-pulled.base) (kept_stream g.R.TableRow.table_of g.R.RowRef.shown c.args.pipe.now.plan c.pull.new.self) _ _ _ (pulled_value c.in-Ok.pulled)
-    c.loop-pulled.invariant.pulled
-    (subst (λ r. IfOk r (λ p. (kept_stream g.R.TableRow.table_of g.R.RowRef.shown c.args.pipe.now.plan c.loop-pulled.base) ≡ in_front (pulled_value p) (kept_stream g.R.TableRow.table_of g.R.RowRef.shown c.args.pipe.now.plan c.pull.new.self))) c.in-Ok.is c.pull.ensures.item)
-    (λ w start h i gr. c.pass_pulled.ensures.grows w start h i gr)
-
-pub next-returns-in-Err-clause-pulled : goal.next-returns-in-Err-clause-pulled
-next-returns-in-Err-clause-pulled g t c =
-    pulled_over (world c.args.self.now) (facts c.args.self.now.sources) (λ w. is_covered_pipe (world c.args.self.now) w (values_in c.args.slots.now) c.args.pipe.now) _ (kept_stream g.R.TableRow.table_of g.R.RowRef.shown c.args.pipe.now.plan c.loop-pulled.base) (kept_stream g.R.TableRow.table_of g.R.RowRef.shown c.args.pipe.now.plan c.pull.new.self) _ _ c.in-Err.end c.loop-pulled.invariant.pulled
-    (subst (λ r. IfErr r (λ e. (kept_stream g.R.TableRow.table_of g.R.RowRef.shown c.args.pipe.now.plan c.loop-pulled.base) ≡ ([], e))) c.in-Err.is c.pull.ensures.end)
-    (subst (λ r. IfErr r (λ e. (kept_stream g.R.TableRow.table_of g.R.RowRef.shown c.args.pipe.now.plan c.pull.new.self).0 ≡ [])) c.in-Err.is c.pull.ensures.over)
-
-pub next-returns-in-Item-clause-hands : goal.next-returns-in-Item-clause-hands
-next-returns-in-Item-clause-hands g t c =
-    hands_item g.R.TableRow.table_of g.R.RowRef.shown (world c.args.self.now) (values_in c.args.slots.now) c.args.pipe.now c.requires (rows_to_come c.args.base.now) (handed_out c.args.base.now) (rows_to_come c.loop-pulled.base) (handed_out c.loop-pulled.base) (rows_to_come c.pull.new.self) (handed_out c.pull.new.self) c.loop-pulled.invariant.passes
-    c.in-Ok.pulled c.in-Item.item (subst (λ r. HandsOut g.R.TableRow.table_of g.R.RowRef.shown c.args.pipe.now.plan (rows_to_come c.loop-pulled.base) (handed_out c.loop-pulled.base) r (rows_to_come c.pull.new.self) (handed_out c.pull.new.self)) c.in-Ok.is c.pull.ensures.hands)
-    (subst (λ o. outcome_stream o ≡ comes g.R.TableRow.table_of g.R.RowRef.shown (world c.args.self.now) (values_in c.args.slots.now) c.args.pipe.now (pulled_value c.in-Ok.pulled)) c.in-Item.is c.in_ok-item-in-Ok.ensures.meant)
-
-pub next-returns-in-Fault-clause-hands : goal.next-returns-in-Fault-clause-hands
-next-returns-in-Fault-clause-hands g t c =
-    hands_fault g.R.TableRow.table_of g.R.RowRef.shown (world c.args.self.now) (values_in c.args.slots.now) c.args.pipe.now c.requires (rows_to_come c.args.base.now) (handed_out c.args.base.now) (rows_to_come c.loop-pulled.base) (handed_out c.loop-pulled.base) (rows_to_come c.pull.new.self) (handed_out c.pull.new.self) c.loop-pulled.invariant.passes
-    c.in-Ok.pulled c.in-Fault.fault (subst (λ r. HandsOut g.R.TableRow.table_of g.R.RowRef.shown c.args.pipe.now.plan (rows_to_come c.loop-pulled.base) (handed_out c.loop-pulled.base) r (rows_to_come c.pull.new.self) (handed_out c.pull.new.self)) c.in-Ok.is c.pull.ensures.hands)
-    (subst (λ o. outcome_stream o ≡ comes g.R.TableRow.table_of g.R.RowRef.shown (world c.args.self.now) (values_in c.args.slots.now) c.args.pipe.now (pulled_value c.in-Ok.pulled)) c.in-Fault.is c.in_ok-item-in-Ok.ensures.meant)
-
-pub next-returns-in-Err-clause-hands : goal.next-returns-in-Err-clause-hands
-next-returns-in-Err-clause-hands g t c =
-    hands_end g.R.TableRow.table_of g.R.RowRef.shown (world c.args.self.now) (values_in c.args.slots.now) c.args.pipe.now c.requires (rows_to_come c.args.base.now) (handed_out c.args.base.now) (rows_to_come c.loop-pulled.base) (handed_out c.loop-pulled.base) (rows_to_come c.pull.new.self) (handed_out c.pull.new.self) c.loop-pulled.invariant.passes c.in-Err.end
-    (subst (λ r. HandsOut g.R.TableRow.table_of g.R.RowRef.shown c.args.pipe.now.plan (rows_to_come c.loop-pulled.base) (handed_out c.loop-pulled.base) r (rows_to_come c.pull.new.self) (handed_out c.pull.new.self)) c.in-Err.is c.pull.ensures.hands)
-
-pub next-returns-in_err-item-in-Ok-clause-within : goal.next-returns-in_err-item-in-Ok-clause-within
-next-returns-in_err-item-in-Ok-clause-within g t c =
-    at_most g.R.TableRow.table_of g.R.RowRef.shown (world c.args.self.now) (values_in c.args.slots.now) c.args.pipe.now c.requires (rows_to_come c.args.base.now) (handed_out c.args.base.now) (rows_to_come c.loop-pulled.base) (handed_out c.loop-pulled.base) (rows_to_come c.pull.new.self) (handed_out c.pull.new.self) c.loop-pulled.invariant.passes c.in-Ok.pulled
-    (subst (λ r. HandsOut g.R.TableRow.table_of g.R.RowRef.shown c.args.pipe.now.plan (rows_to_come c.loop-pulled.base) (handed_out c.loop-pulled.base) r (rows_to_come c.pull.new.self) (handed_out c.pull.new.self)) c.in-Ok.is c.pull.ensures.hands)
-
-pub next-returns-in_err-item-in-Ok-clause-alone : goal.next-returns-in_err-item-in-Ok-clause-alone
-next-returns-in_err-item-in-Ok-clause-alone g t c = λ none. c.pull.ensures.alone (c.loop-pulled.invariant.alone none)
-
-pub next-returns-in-Item-clause-within : goal.next-returns-in-Item-clause-within
-next-returns-in-Item-clause-within g t c =
-    at_most g.R.TableRow.table_of g.R.RowRef.shown (world c.args.self.now) (values_in c.args.slots.now) c.args.pipe.now c.requires (rows_to_come c.args.base.now) (handed_out c.args.base.now) (rows_to_come c.loop-pulled.base) (handed_out c.loop-pulled.base) (rows_to_come c.pull.new.self) (handed_out c.pull.new.self) c.loop-pulled.invariant.passes c.in-Ok.pulled
-    (subst (λ r. HandsOut g.R.TableRow.table_of g.R.RowRef.shown c.args.pipe.now.plan (rows_to_come c.loop-pulled.base) (handed_out c.loop-pulled.base) r (rows_to_come c.pull.new.self) (handed_out c.pull.new.self)) c.in-Ok.is c.pull.ensures.hands)
-
-pub next-returns-in-Item-clause-alone : goal.next-returns-in-Item-clause-alone
-next-returns-in-Item-clause-alone g t c = λ none. c.pull.ensures.alone (c.loop-pulled.invariant.alone none)
-
-pub next-returns-in-Fault-clause-within : goal.next-returns-in-Fault-clause-within
-next-returns-in-Fault-clause-within g t c =
-    at_most g.R.TableRow.table_of g.R.RowRef.shown (world c.args.self.now) (values_in c.args.slots.now) c.args.pipe.now c.requires (rows_to_come c.args.base.now) (handed_out c.args.base.now) (rows_to_come c.loop-pulled.base) (handed_out c.loop-pulled.base) (rows_to_come c.pull.new.self) (handed_out c.pull.new.self) c.loop-pulled.invariant.passes c.in-Ok.pulled
-    (subst (λ r. HandsOut g.R.TableRow.table_of g.R.RowRef.shown c.args.pipe.now.plan (rows_to_come c.loop-pulled.base) (handed_out c.loop-pulled.base) r (rows_to_come c.pull.new.self) (handed_out c.pull.new.self)) c.in-Ok.is c.pull.ensures.hands)
-
-pub next-returns-in-Fault-clause-alone : goal.next-returns-in-Fault-clause-alone
-next-returns-in-Fault-clause-alone g t c = λ none. c.pull.ensures.alone (c.loop-pulled.invariant.alone none)
-
-pub next-returns-in-Err-clause-within : goal.next-returns-in-Err-clause-within
-next-returns-in-Err-clause-within g t c =
-    at_most_end g.R.TableRow.table_of g.R.RowRef.shown (world c.args.self.now) (values_in c.args.slots.now) c.args.pipe.now c.requires (rows_to_come c.args.base.now) (handed_out c.args.base.now) (rows_to_come c.loop-pulled.base) (handed_out c.loop-pulled.base) (rows_to_come c.pull.new.self) (handed_out c.pull.new.self) c.loop-pulled.invariant.passes c.in-Err.end
-    (subst (λ r. HandsOut g.R.TableRow.table_of g.R.RowRef.shown c.args.pipe.now.plan (rows_to_come c.loop-pulled.base) (handed_out c.loop-pulled.base) r (rows_to_come c.pull.new.self) (handed_out c.pull.new.self)) c.in-Err.is c.pull.ensures.hands)
-
-pub next-returns-in-Err-clause-alone : goal.next-returns-in-Err-clause-alone
-next-returns-in-Err-clause-alone g t c = λ none. c.pull.ensures.alone (c.loop-pulled.invariant.alone none)
-
-pub next-loop-pulled-init : goal.next-loop-pulled-init
-next-loop-pulled-init g t c =
-    record {
-      meant = refl;
-      pulled = pulled_none (world c.args.self.now) (facts c.args.self.now.sources) (λ w. is_covered_pipe (world c.args.self.now) w (values_in c.args.slots.now) c.args.pipe.now) _ _;
-      passes = passes_none g.R.TableRow.table_of g.R.RowRef.shown (world c.args.self.now) (values_in c.args.slots.now) c.args.pipe.now (rows_to_come c.args.base.now) (handed_out c.args.base.now);
-      alone = λ none. none;
-    }
-
-pub next-loop-pulled-preserved : goal.next-loop-pulled-preserved
-next-loop-pulled-preserved g t c =
-    record {
-      meant = next_dropped g.R.TableRow.table_of g.R.RowRef.shown (world c.args.self.now) (values_in c.args.slots.now) c.args.pipe.now c.args.base.now c.loop-pulled.base c.pull.new.self _ c.requires c.loop-pulled.invariant.meant
-          (subst (λ r. IfOk r (λ p. (kept_stream g.R.TableRow.table_of g.R.RowRef.shown c.args.pipe.now.plan c.loop-pulled.base) ≡ in_front (pulled_value p) (kept_stream g.R.TableRow.table_of g.R.RowRef.shown c.args.pipe.now.plan c.pull.new.self))) c.in-Ok.is c.pull.ensures.item)
-          (subst (λ o. outcome_stream o ≡ comes g.R.TableRow.table_of g.R.RowRef.shown (world c.args.self.now) (values_in c.args.slots.now) c.args.pipe.now (pulled_value c.in-Ok.pulled)) c.in-Dropped.is c.in_ok-item-in-Ok.ensures.meant);
-      pulled = pulled_more (world c.args.self.now) (facts c.args.self.now.sources) (λ w. is_covered_pipe (world c.args.self.now) w (values_in c.args.slots.now) c.args.pipe.now) _ (kept_stream g.R.TableRow.table_of g.R.RowRef.shown c.args.pipe.now.plan c.loop-pulled.base) (kept_stream g.R.TableRow.table_of g.R.RowRef.shown c.args.pipe.now.plan c.pull.new.self) _ _ _ (pulled_value c.in-Ok.pulled)
-          c.loop-pulled.invariant.pulled
-          (subst (λ r. IfOk r (λ p. (kept_stream g.R.TableRow.table_of g.R.RowRef.shown c.args.pipe.now.plan c.loop-pulled.base) ≡ in_front (pulled_value p) (kept_stream g.R.TableRow.table_of g.R.RowRef.shown c.args.pipe.now.plan c.pull.new.self))) c.in-Ok.is c.pull.ensures.item)
-          (λ w start h i gr. c.pass_pulled.ensures.grows w start h i gr);
-      passes = passes_dropped g.R.TableRow.table_of g.R.RowRef.shown (world c.args.self.now) (values_in c.args.slots.now) c.args.pipe.now c.requires (rows_to_come c.args.base.now) (handed_out c.args.base.now) (rows_to_come c.loop-pulled.base) (handed_out c.loop-pulled.base) (rows_to_come c.pull.new.self) (handed_out c.pull.new.self) c.loop-pulled.invariant.passes
-          c.in-Ok.pulled (subst (λ r. HandsOut g.R.TableRow.table_of g.R.RowRef.shown c.args.pipe.now.plan (rows_to_come c.loop-pulled.base) (handed_out c.loop-pulled.base) r (rows_to_come c.pull.new.self) (handed_out c.pull.new.self)) c.in-Ok.is c.pull.ensures.hands)
-          (subst (λ o. outcome_stream o ≡ comes g.R.TableRow.table_of g.R.RowRef.shown (world c.args.self.now) (values_in c.args.slots.now) c.args.pipe.now (pulled_value c.in-Ok.pulled)) c.in-Dropped.is c.in_ok-item-in-Ok.ensures.meant);
-      alone = λ none. c.pull.ensures.alone (c.loop-pulled.invariant.alone none);
-    }
-
 pub read-loop-less-init : goal.read-loop-less-init
 read-loop-less-init g t c =
     record {
@@ -680,74 +1077,61 @@ pub read-returns-in-Err-clause-meant : goal.read-returns-in-Err-clause-meant
 read-returns-in-Err-clause-meant g t c =
     read_ended (items_left (world c.args.self.now) (values_in c.args.slots.now) c.args.pipe.now c.loop-less.base) _ c.loop-less.items c.in-Err.end c.loop-less.left c.in-Some.less (subst (λ s. Steps (items_left (world c.args.self.now) (values_in c.args.slots.now) c.args.pipe.now c.loop-less.base) s (items_left (world c.args.self.now) (values_in c.args.slots.now) c.args.pipe.now c.next.new.base)) c.in-Err.is c.in_ok-item.ensures.meant) (sym c.one_less.ensures ∙ c.in-Some.is) c.loop-less.invariant.meant
 
-pub tally-loop-base-init : goal.tally-loop-base-init
-tally-loop-base-init g t c =
+pub tally_item-returns-in-Ok-true-clause-grows : goal.tally_item-returns-in-Ok-true-clause-grows
+tally_item-returns-in-Ok-true-clause-grows g t c =
+    λ w start h s i gr.
+    c.holds.ensures.grows w start (subst (λ st. is_covered_stage (world c.args.self.now) w st ≡ true) c.in-Where.is h) s i gr
+
+pub tally_item-returns-in-Ok-false-clause-grows : goal.tally_item-returns-in-Ok-false-clause-grows
+tally_item-returns-in-Ok-false-clause-grows g t c =
+    λ w start h s i gr.
+    c.holds.ensures.grows w start (subst (λ st. is_covered_stage (world c.args.self.now) w st ≡ true) c.in-Where.is h) s i gr
+
+pub tally_item-returns-in-Err-clause-grows : goal.tally_item-returns-in-Err-clause-grows
+tally_item-returns-in-Err-clause-grows g t c =
+    λ w start h s i gr.
+    c.holds.ensures.grows w start (subst (λ st. is_covered_stage (world c.args.self.now) w st ≡ true) c.in-Where.is h) s i gr
+
+pub tally_item-returns-in_err-holds-in-Where-clause-grows : goal.tally_item-returns-in_err-holds-in-Where-clause-grows
+tally_item-returns-in_err-holds-in-Where-clause-grows g t c =
+    λ w start h s i gr.
+    c.holds.ensures.grows w start (subst (λ st. is_covered_stage (world c.args.self.now) w st ≡ true) c.in-Where.is h) s i gr
+
+pub tally_items-loop-item-preserved : goal.tally_items-loop-item-preserved
+tally_items-loop-item-preserved g t c =
     record {
-      meant = tally_begins _ _ _ _ (left_opened (world c.args.self.now) (values_in c.args.slots.now) _ _ c.in_ok-base.base c.in_ok-base.ensures.meant);
-      log = opened (world c.args.self.now) (facts c.args.self.now.sources) g.R.TableRow.table_of g.R.RowRef.shown (values_in c.args.slots.now) c.args.pipe.now (Covers (world c.args.self.now) (values_in c.args.slots.now) c.args.pipe.now) _ _ c.in_ok-base.base (λ w start p gr. c.open.ensures.grows w start p.source_in p.slots_in gr) (λ w p. c.in_ok-base.ensures.from w p.source_in p.slots_in);
+      meant = staged_goes (world c.args.self.now) (values_in c.args.slots.now) c.args.stage.now c.args.of.now c.loop-item.tally _ (Ok c.in-Ok.next) _ c.args.items.now _ c.args.end _ c.item-item.is c.loop-item-test.true c.in_ok-next.ensures.meant c.in-Ok.is c.loop-item.invariant.meant;
+      grows = λ w start h s a gr. c.tally_item.ensures.grows w start h s (all_there (has_watched_rows w) _ _ _ a c.item-item.is c.loop-item-test.true) (c.loop-item.invariant.grows w start h s a gr);
     }
 
-pub tally-returns-in_err-item-clause-grows : goal.tally-returns-in_err-item-clause-grows
-tally-returns-in_err-item-clause-grows g t c =
+pub tally_items-returns-in-Err-clause-meant : goal.tally_items-returns-in-Err-clause-meant
+tally_items-returns-in-Err-clause-meant g t c =
+    ap as_value (sym (staged_goes (world c.args.self.now) (values_in c.args.slots.now) c.args.stage.now c.args.of.now c.loop-item.tally _ (Err c.in-Err.fault) _ c.args.items.now _ c.args.end _ c.item-item.is c.loop-item-test.true c.in_ok-next.ensures.meant c.in-Err.is c.loop-item.invariant.meant))
+
+pub tally_items-returns-in-Err-clause-grows : goal.tally_items-returns-in-Err-clause-grows
+tally_items-returns-in-Err-clause-grows g t c =
+    λ w start h s a gr.
+    c.tally_item.ensures.grows w start h s (all_there (has_watched_rows w) _ _ _ a c.item-item.is c.loop-item-test.true) (c.loop-item.invariant.grows w start h s a gr)
+
+pub tally_items-returns-in_err-next-clause-grows : goal.tally_items-returns-in_err-next-clause-grows
+tally_items-returns-in_err-next-clause-grows g t c =
+    λ w start h s a gr.
+    c.tally_item.ensures.grows w start h s (all_there (has_watched_rows w) _ _ _ a c.item-item.is c.loop-item-test.true) (c.loop-item.invariant.grows w start h s a gr)
+
+pub tally_items-returns-clause-grows : goal.tally_items-returns-clause-grows
+tally_items-returns-clause-grows g t c =
+    λ w start h s a gr.
+    c.loop-item.invariant.grows w start h s a gr
+
+pub tally-returns-in-Some-clause-meant : goal.tally-returns-in-Some-clause-meant
+tally-returns-in-Some-clause-meant g t c =
+    subst (λ s. IsAnswer (as_value (tallied c.args.of.now c.args.tally (through_stage (world c.args.self.now) (values_in c.args.slots.now) c.args.pipe.now.stage s))) c.tally_items.result)
+    (sym (c.in-Some.ensures (world c.args.self.now))) c.tally_items.ensures.meant
+
+pub tally-returns-in-Some-clause-grows : goal.tally-returns-in-Some-clause-grows
+tally-returns-in-Some-clause-grows g t c =
     λ w start a b s gr.
-    (went_on (world c.args.self.now) (facts c.args.self.now.sources) g.R.TableRow.table_of g.R.RowRef.shown (values_in c.args.slots.now) c.args.pipe.now (Covers (world c.args.self.now) (values_in c.args.slots.now) c.args.pipe.now) (λ w p. p) _ _ _ c.loop-base.base c.next.new.base c.loop-base.invariant.log c.next.ensures.pulled).grows w start (covers_pipe (world c.args.self.now) (values_in c.args.slots.now) c.args.pipe.now w a b s) gr
-
-pub tally-returns-in_err-tally-in-Ok-clause-grows : goal.tally-returns-in_err-tally-in-Ok-clause-grows
-tally-returns-in_err-tally-in-Ok-clause-grows g t c =
-    λ w start a b s gr.
-    (went_on (world c.args.self.now) (facts c.args.self.now.sources) g.R.TableRow.table_of g.R.RowRef.shown (values_in c.args.slots.now) c.args.pipe.now (Covers (world c.args.self.now) (values_in c.args.slots.now) c.args.pipe.now) (λ w p. p) _ _ _ c.loop-base.base c.next.new.base c.loop-base.invariant.log c.next.ensures.pulled).grows w start (covers_pipe (world c.args.self.now) (values_in c.args.slots.now) c.args.pipe.now w a b s) gr
-
-pub tally-returns-in_err-result-in-Err-clause-grows : goal.tally-returns-in_err-result-in-Err-clause-grows
-tally-returns-in_err-result-in-Err-clause-grows g t c =
-    λ w start a b s gr.
-    (went_on (world c.args.self.now) (facts c.args.self.now.sources) g.R.TableRow.table_of g.R.RowRef.shown (values_in c.args.slots.now) c.args.pipe.now (Covers (world c.args.self.now) (values_in c.args.slots.now) c.args.pipe.now) (λ w p. p) _ _ _ c.loop-base.base c.next.new.base c.loop-base.invariant.log c.next.ensures.pulled).grows w start (covers_pipe (world c.args.self.now) (values_in c.args.slots.now) c.args.pipe.now w a b s) gr
-
-pub tally-returns-in-Err-clause-grows : goal.tally-returns-in-Err-clause-grows
-tally-returns-in-Err-clause-grows g t c =
-    λ w start a b s gr.
-    (went_on (world c.args.self.now) (facts c.args.self.now.sources) g.R.TableRow.table_of g.R.RowRef.shown (values_in c.args.slots.now) c.args.pipe.now (Covers (world c.args.self.now) (values_in c.args.slots.now) c.args.pipe.now) (λ w p. p) _ _ _ c.loop-base.base c.next.new.base c.loop-base.invariant.log c.next.ensures.pulled).grows w start (covers_pipe (world c.args.self.now) (values_in c.args.slots.now) c.args.pipe.now w a b s) gr
-
-pub tally-loop-base-preserved : goal.tally-loop-base-preserved
-tally-loop-base-preserved g t c =
-    record {
-      meant = tally_on c.args.of.now c.loop-base.tally _ (items_left (world c.args.self.now) (values_in c.args.slots.now) c.args.pipe.now c.loop-base.base) (items_left (world c.args.self.now) (values_in c.args.slots.now) c.args.pipe.now c.next.new.base) c.in-Ok.item _ (subst (λ s. Steps (items_left (world c.args.self.now) (values_in c.args.slots.now) c.args.pipe.now c.loop-base.base) s (items_left (world c.args.self.now) (values_in c.args.slots.now) c.args.pipe.now c.next.new.base)) c.in-Ok.is c.in_ok-item.ensures.meant) c.in_ok-tally-in-Ok.ensures c.loop-base.invariant.meant;
-      log = went_on (world c.args.self.now) (facts c.args.self.now.sources) g.R.TableRow.table_of g.R.RowRef.shown (values_in c.args.slots.now) c.args.pipe.now (Covers (world c.args.self.now) (values_in c.args.slots.now) c.args.pipe.now) (λ w p. p) _ _ _ c.loop-base.base c.next.new.base c.loop-base.invariant.log c.next.ensures.pulled;
-    }
-
-pub tally-loop-base-preserved-in_ok-tally-in-Ok : goal.tally-loop-base-preserved-in_ok-tally-in-Ok
-tally-loop-base-preserved-in_ok-tally-in-Ok g t c =
-    record {
-      meant = tally_on c.args.of.now c.loop-base.tally _ (items_left (world c.args.self.now) (values_in c.args.slots.now) c.args.pipe.now c.loop-base.base) (items_left (world c.args.self.now) (values_in c.args.slots.now) c.args.pipe.now c.next.new.base) c.in-Ok.item _ (subst (λ s. Steps (items_left (world c.args.self.now) (values_in c.args.slots.now) c.args.pipe.now c.loop-base.base) s (items_left (world c.args.self.now) (values_in c.args.slots.now) c.args.pipe.now c.next.new.base)) c.in-Ok.is c.in_ok-item.ensures.meant) c.in_ok-tally-in-Ok.ensures c.loop-base.invariant.meant;
-      log = went_on (world c.args.self.now) (facts c.args.self.now.sources) g.R.TableRow.table_of g.R.RowRef.shown (values_in c.args.slots.now) c.args.pipe.now (Covers (world c.args.self.now) (values_in c.args.slots.now) c.args.pipe.now) (λ w p. p) _ _ _ c.loop-base.base c.next.new.base c.loop-base.invariant.log c.next.ensures.pulled;
-    }
-
-pub tally-loop-base-preserved-in_ok-tally-in-Ok-2 : goal.tally-loop-base-preserved-in_ok-tally-in-Ok-2
-tally-loop-base-preserved-in_ok-tally-in-Ok-2 g t c =
-    record {
-      meant = tally_on c.args.of.now c.loop-base.tally _ (items_left (world c.args.self.now) (values_in c.args.slots.now) c.args.pipe.now c.loop-base.base) (items_left (world c.args.self.now) (values_in c.args.slots.now) c.args.pipe.now c.next.new.base) c.in-Ok.item _ (subst (λ s. Steps (items_left (world c.args.self.now) (values_in c.args.slots.now) c.args.pipe.now c.loop-base.base) s (items_left (world c.args.self.now) (values_in c.args.slots.now) c.args.pipe.now c.next.new.base)) c.in-Ok.is c.in_ok-item.ensures.meant) c.in_ok-tally-in-Ok.ensures c.loop-base.invariant.meant;
-      log = went_on (world c.args.self.now) (facts c.args.self.now.sources) g.R.TableRow.table_of g.R.RowRef.shown (values_in c.args.slots.now) c.args.pipe.now (Covers (world c.args.self.now) (values_in c.args.slots.now) c.args.pipe.now) (λ w p. p) _ _ _ c.loop-base.base c.next.new.base c.loop-base.invariant.log c.next.ensures.pulled;
-    }
-
-pub tally-loop-base-preserved-in_ok-tally-in-Ok-3 : goal.tally-loop-base-preserved-in_ok-tally-in-Ok-3
-tally-loop-base-preserved-in_ok-tally-in-Ok-3 g t c =
-    record {
-      meant = tally_on c.args.of.now c.loop-base.tally _ (items_left (world c.args.self.now) (values_in c.args.slots.now) c.args.pipe.now c.loop-base.base) (items_left (world c.args.self.now) (values_in c.args.slots.now) c.args.pipe.now c.next.new.base) c.in-Ok.item _ (subst (λ s. Steps (items_left (world c.args.self.now) (values_in c.args.slots.now) c.args.pipe.now c.loop-base.base) s (items_left (world c.args.self.now) (values_in c.args.slots.now) c.args.pipe.now c.next.new.base)) c.in-Ok.is c.in_ok-item.ensures.meant) c.in_ok-tally-in-Ok.ensures c.loop-base.invariant.meant;
-      log = went_on (world c.args.self.now) (facts c.args.self.now.sources) g.R.TableRow.table_of g.R.RowRef.shown (values_in c.args.slots.now) c.args.pipe.now (Covers (world c.args.self.now) (values_in c.args.slots.now) c.args.pipe.now) (λ w p. p) _ _ _ c.loop-base.base c.next.new.base c.loop-base.invariant.log c.next.ensures.pulled;
-    }
-
-pub tally-loop-base-preserved-in_ok-tally-in-Ok-4 : goal.tally-loop-base-preserved-in_ok-tally-in-Ok-4
-tally-loop-base-preserved-in_ok-tally-in-Ok-4 g t c =
-    record {
-      meant = tally_on c.args.of.now c.loop-base.tally _ (items_left (world c.args.self.now) (values_in c.args.slots.now) c.args.pipe.now c.loop-base.base) (items_left (world c.args.self.now) (values_in c.args.slots.now) c.args.pipe.now c.next.new.base) c.in-Ok.item _ (subst (λ s. Steps (items_left (world c.args.self.now) (values_in c.args.slots.now) c.args.pipe.now c.loop-base.base) s (items_left (world c.args.self.now) (values_in c.args.slots.now) c.args.pipe.now c.next.new.base)) c.in-Ok.is c.in_ok-item.ensures.meant) c.in_ok-tally-in-Ok.ensures c.loop-base.invariant.meant;
-      log = went_on (world c.args.self.now) (facts c.args.self.now.sources) g.R.TableRow.table_of g.R.RowRef.shown (values_in c.args.slots.now) c.args.pipe.now (Covers (world c.args.self.now) (values_in c.args.slots.now) c.args.pipe.now) (λ w p. p) _ _ _ c.loop-base.base c.next.new.base c.loop-base.invariant.log c.next.ensures.pulled;
-    }
-
-pub tally-loop-base-preserved-in_ok-tally-in-Ok-5 : goal.tally-loop-base-preserved-in_ok-tally-in-Ok-5
-tally-loop-base-preserved-in_ok-tally-in-Ok-5 g t c =
-    record {
-      meant = tally_on c.args.of.now c.loop-base.tally _ (items_left (world c.args.self.now) (values_in c.args.slots.now) c.args.pipe.now c.loop-base.base) (items_left (world c.args.self.now) (values_in c.args.slots.now) c.args.pipe.now c.next.new.base) c.in-Ok.item _ (subst (λ s. Steps (items_left (world c.args.self.now) (values_in c.args.slots.now) c.args.pipe.now c.loop-base.base) s (items_left (world c.args.self.now) (values_in c.args.slots.now) c.args.pipe.now c.next.new.base)) c.in-Ok.is c.in_ok-item.ensures.meant) c.in_ok-tally-in-Ok.ensures c.loop-base.invariant.meant;
-      log = went_on (world c.args.self.now) (facts c.args.self.now.sources) g.R.TableRow.table_of g.R.RowRef.shown (values_in c.args.slots.now) c.args.pipe.now (Covers (world c.args.self.now) (values_in c.args.slots.now) c.args.pipe.now) (λ w p. p) _ _ _ c.loop-base.base c.next.new.base c.loop-base.invariant.log c.next.ensures.pulled;
-    }
+    c.tally_items.ensures.grows w start b s (stream_passes (world c.args.self.now) w c.args.pipe.now.source.now (values_in c.args.slots.now) _ (sym (c.in-Some.ensures (world c.args.self.now))) a s) gr
 
 pub has_item-loop-base-init : goal.has_item-loop-base-init
 has_item-loop-base-init g t c =
@@ -1074,50 +1458,6 @@ join_items-loop-values-preserved-in-Done-5 g t c =
           (λ w start p gr. c.join_item.ensures.grows w start p.1 p.2 p.0.slots_in (next_passes (world c.args.self.now) (facts c.args.self.now.sources) g.R.TableRow.table_of g.R.RowRef.shown (values_in c.args.slots.now) c.args.pipe.now (λ w. Covers (world c.args.self.now) (values_in c.args.slots.now) c.args.pipe.now w × (is_covered_join (world c.args.self.now) w c.args.joined.now ≡ true) × (matches_pass w (pairs_of c.args.matches.now) ≡ true)) (λ w p. p.0) _ _ c.loop-values.base _ c.in-Ok.item (items_left (world c.args.self.now) (values_in c.args.slots.now) c.args.pipe.now c.next.new.base) c.loop-values.invariant.log c.requires c.in-Ok.is c.in_ok-item.ensures.meant w p) gr);
     }
 
-pub key_pairs-loop-pairs-init : goal.key_pairs-loop-pairs-init
-key_pairs-loop-pairs-init g t c =
-    record {
-      meant = selects_begin (key_and_element (world c.args.self.now) (values_in c.args.slots.now) c.args.key.now c.args.element) _ _ _ c.new-pairs.ensures
-          (left_opened (world c.args.self.now) (values_in c.args.slots.now) _ _ c.in_ok-base.base c.in_ok-base.ensures.meant ∙ c.in_ok-pipe.ensures.items);
-      log = opened (world c.args.self.now) (facts c.args.self.now.sources) g.R.TableRow.table_of g.R.RowRef.shown (values_in c.args.slots.now) c.in_ok-pipe.pipe (λ w. Covers (world c.args.self.now) (values_in c.args.slots.now) c.in_ok-pipe.pipe w × (is_covered (world c.args.self.now) w c.args.key.now ≡ true) × (is_covered_element (world c.args.self.now) w c.args.element ≡ true)) _ _ c.in_ok-base.base (λ w start p gr. c.open.ensures.grows w start p.0.source_in p.0.slots_in gr) (λ w p. c.in_ok-base.ensures.from w p.0.source_in p.0.slots_in);
-    }
-
-pub key_pairs-returns-in_err-item-clause-grows : goal.key_pairs-returns-in_err-item-clause-grows
-key_pairs-returns-in_err-item-clause-grows g t c =
-    λ w start a hk he s gr.
-    (went_on (world c.args.self.now) (facts c.args.self.now.sources) g.R.TableRow.table_of g.R.RowRef.shown (values_in c.args.slots.now) c.in_ok-pipe.pipe (λ w. Covers (world c.args.self.now) (values_in c.args.slots.now) c.in_ok-pipe.pipe w × (is_covered (world c.args.self.now) w c.args.key.now ≡ true) × (is_covered_element (world c.args.self.now) w c.args.element ≡ true)) (λ w p. p.0) _ _ _ c.loop-pairs.base c.next.new.base c.loop-pairs.invariant.log c.next.ensures.pulled).grows w start (covers_pipe (world c.args.self.now) (values_in c.args.slots.now) c.in_ok-pipe.pipe w (covered_as (world c.args.self.now) w _ _ c.in_ok-pipe.ensures.source a) (stage_as (world c.args.self.now) w _ _ c.in_ok-pipe.ensures.stage refl) s, hk, he) gr
-
-pub key_pairs-returns-in-Err-clause-grows : goal.key_pairs-returns-in-Err-clause-grows
-key_pairs-returns-in-Err-clause-grows g t c =
-    λ w start a hk he s gr.
-    (went_on (world c.args.self.now) (facts c.args.self.now.sources) g.R.TableRow.table_of g.R.RowRef.shown (values_in c.args.slots.now) c.in_ok-pipe.pipe (λ w. Covers (world c.args.self.now) (values_in c.args.slots.now) c.in_ok-pipe.pipe w × (is_covered (world c.args.self.now) w c.args.key.now ≡ true) × (is_covered_element (world c.args.self.now) w c.args.element ≡ true)) (λ w p. p.0) _ _ _ c.loop-pairs.base c.next.new.base c.loop-pairs.invariant.log c.next.ensures.pulled).grows w start (covers_pipe (world c.args.self.now) (values_in c.args.slots.now) c.in_ok-pipe.pipe w (covered_as (world c.args.self.now) w _ _ c.in_ok-pipe.ensures.source a) (stage_as (world c.args.self.now) w _ _ c.in_ok-pipe.ensures.stage refl) s, hk, he) gr
-
-pub key_pairs-returns-in_err-pair-in-Ok-clause-grows : goal.key_pairs-returns-in_err-pair-in-Ok-clause-grows
-key_pairs-returns-in_err-pair-in-Ok-clause-grows g t c =
-    λ w start a hk he s gr.
-    (asked (world c.args.self.now) (facts c.args.self.now.sources) g.R.TableRow.table_of g.R.RowRef.shown (values_in c.args.slots.now) c.in_ok-pipe.pipe (λ w. Covers (world c.args.self.now) (values_in c.args.slots.now) c.in_ok-pipe.pipe w × (is_covered (world c.args.self.now) w c.args.key.now ≡ true) × (is_covered_element (world c.args.self.now) w c.args.element ≡ true)) _ _ _ _ (went_on (world c.args.self.now) (facts c.args.self.now.sources) g.R.TableRow.table_of g.R.RowRef.shown (values_in c.args.slots.now) c.in_ok-pipe.pipe (λ w. Covers (world c.args.self.now) (values_in c.args.slots.now) c.in_ok-pipe.pipe w × (is_covered (world c.args.self.now) w c.args.key.now ≡ true) × (is_covered_element (world c.args.self.now) w c.args.element ≡ true)) (λ w p. p.0) _ _ _ c.loop-pairs.base c.next.new.base c.loop-pairs.invariant.log c.next.ensures.pulled)
-    (λ w start p gr. c.key_pair.ensures.grows w start p.1 p.2 p.0.slots_in (next_passes (world c.args.self.now) (facts c.args.self.now.sources) g.R.TableRow.table_of g.R.RowRef.shown (values_in c.args.slots.now) c.in_ok-pipe.pipe (λ w. Covers (world c.args.self.now) (values_in c.args.slots.now) c.in_ok-pipe.pipe w × (is_covered (world c.args.self.now) w c.args.key.now ≡ true) × (is_covered_element (world c.args.self.now) w c.args.element ≡ true)) (λ w p. p.0) _ _ c.loop-pairs.base _ c.in-Ok.item (items_left (world c.args.self.now) (values_in c.args.slots.now) c.in_ok-pipe.pipe c.next.new.base) c.loop-pairs.invariant.log c.in_ok-pipe.ensures.planned c.in-Ok.is c.in_ok-item.ensures.meant w p) gr)).grows w start (covers_pipe (world c.args.self.now) (values_in c.args.slots.now) c.in_ok-pipe.pipe w (covered_as (world c.args.self.now) w _ _ c.in_ok-pipe.ensures.source a) (stage_as (world c.args.self.now) w _ _ c.in_ok-pipe.ensures.stage refl) s, hk, he) gr
-
-pub key_pairs-returns-in_err-push-in-Ok-2-clause-grows : goal.key_pairs-returns-in_err-push-in-Ok-2-clause-grows
-key_pairs-returns-in_err-push-in-Ok-2-clause-grows g t c =
-    λ w start a hk he s gr.
-    (asked (world c.args.self.now) (facts c.args.self.now.sources) g.R.TableRow.table_of g.R.RowRef.shown (values_in c.args.slots.now) c.in_ok-pipe.pipe (λ w. Covers (world c.args.self.now) (values_in c.args.slots.now) c.in_ok-pipe.pipe w × (is_covered (world c.args.self.now) w c.args.key.now ≡ true) × (is_covered_element (world c.args.self.now) w c.args.element ≡ true)) _ _ _ _ (went_on (world c.args.self.now) (facts c.args.self.now.sources) g.R.TableRow.table_of g.R.RowRef.shown (values_in c.args.slots.now) c.in_ok-pipe.pipe (λ w. Covers (world c.args.self.now) (values_in c.args.slots.now) c.in_ok-pipe.pipe w × (is_covered (world c.args.self.now) w c.args.key.now ≡ true) × (is_covered_element (world c.args.self.now) w c.args.element ≡ true)) (λ w p. p.0) _ _ _ c.loop-pairs.base c.next.new.base c.loop-pairs.invariant.log c.next.ensures.pulled)
-    (λ w start p gr. c.key_pair.ensures.grows w start p.1 p.2 p.0.slots_in (next_passes (world c.args.self.now) (facts c.args.self.now.sources) g.R.TableRow.table_of g.R.RowRef.shown (values_in c.args.slots.now) c.in_ok-pipe.pipe (λ w. Covers (world c.args.self.now) (values_in c.args.slots.now) c.in_ok-pipe.pipe w × (is_covered (world c.args.self.now) w c.args.key.now ≡ true) × (is_covered_element (world c.args.self.now) w c.args.element ≡ true)) (λ w p. p.0) _ _ c.loop-pairs.base _ c.in-Ok.item (items_left (world c.args.self.now) (values_in c.args.slots.now) c.in_ok-pipe.pipe c.next.new.base) c.loop-pairs.invariant.log c.in_ok-pipe.ensures.planned c.in-Ok.is c.in_ok-item.ensures.meant w p) gr)).grows w start (covers_pipe (world c.args.self.now) (values_in c.args.slots.now) c.in_ok-pipe.pipe w (covered_as (world c.args.self.now) w _ _ c.in_ok-pipe.ensures.source a) (stage_as (world c.args.self.now) w _ _ c.in_ok-pipe.ensures.stage refl) s, hk, he) gr
-
-pub key_pairs-returns-in-Err-2-clause-grows : goal.key_pairs-returns-in-Err-2-clause-grows
-key_pairs-returns-in-Err-2-clause-grows g t c =
-    λ w start a hk he s gr.
-    (asked (world c.args.self.now) (facts c.args.self.now.sources) g.R.TableRow.table_of g.R.RowRef.shown (values_in c.args.slots.now) c.in_ok-pipe.pipe (λ w. Covers (world c.args.self.now) (values_in c.args.slots.now) c.in_ok-pipe.pipe w × (is_covered (world c.args.self.now) w c.args.key.now ≡ true) × (is_covered_element (world c.args.self.now) w c.args.element ≡ true)) _ _ _ _ (went_on (world c.args.self.now) (facts c.args.self.now.sources) g.R.TableRow.table_of g.R.RowRef.shown (values_in c.args.slots.now) c.in_ok-pipe.pipe (λ w. Covers (world c.args.self.now) (values_in c.args.slots.now) c.in_ok-pipe.pipe w × (is_covered (world c.args.self.now) w c.args.key.now ≡ true) × (is_covered_element (world c.args.self.now) w c.args.element ≡ true)) (λ w p. p.0) _ _ _ c.loop-pairs.base c.next.new.base c.loop-pairs.invariant.log c.next.ensures.pulled)
-    (λ w start p gr. c.key_pair.ensures.grows w start p.1 p.2 p.0.slots_in (next_passes (world c.args.self.now) (facts c.args.self.now.sources) g.R.TableRow.table_of g.R.RowRef.shown (values_in c.args.slots.now) c.in_ok-pipe.pipe (λ w. Covers (world c.args.self.now) (values_in c.args.slots.now) c.in_ok-pipe.pipe w × (is_covered (world c.args.self.now) w c.args.key.now ≡ true) × (is_covered_element (world c.args.self.now) w c.args.element ≡ true)) (λ w p. p.0) _ _ c.loop-pairs.base _ c.in-Ok.item (items_left (world c.args.self.now) (values_in c.args.slots.now) c.in_ok-pipe.pipe c.next.new.base) c.loop-pairs.invariant.log c.in_ok-pipe.ensures.planned c.in-Ok.is c.in_ok-item.ensures.meant w p) gr)).grows w start (covers_pipe (world c.args.self.now) (values_in c.args.slots.now) c.in_ok-pipe.pipe w (covered_as (world c.args.self.now) w _ _ c.in_ok-pipe.ensures.source a) (stage_as (world c.args.self.now) w _ _ c.in_ok-pipe.ensures.stage refl) s, hk, he) gr
-
-pub key_pairs-loop-pairs-preserved : goal.key_pairs-loop-pairs-preserved
-key_pairs-loop-pairs-preserved g t c =
-    record {
-      meant = selects_on (key_and_element (world c.args.self.now) (values_in c.args.slots.now) c.args.key.now c.args.element) (items_left (world c.args.self.now) (values_in c.args.slots.now) c.in_ok-pipe.pipe c.loop-pairs.base) (items_left (world c.args.self.now) (values_in c.args.slots.now) c.in_ok-pipe.pipe c.next.new.base) c.in-Ok.item c.in-Ok-2.pair _ c.loop-pairs.pairs _ (subst (λ s. Steps (items_left (world c.args.self.now) (values_in c.args.slots.now) c.in_ok-pipe.pipe c.loop-pairs.base) s (items_left (world c.args.self.now) (values_in c.args.slots.now) c.in_ok-pipe.pipe c.next.new.base)) c.in-Ok.is c.in_ok-item.ensures.meant) (sym c.in-Ok-2.is ∙ c.in_ok-pair-in-Ok.ensures.meant) c.in_ok-push-in-Ok-2.ensures.ok c.loop-pairs.invariant.meant;
-      log = asked (world c.args.self.now) (facts c.args.self.now.sources) g.R.TableRow.table_of g.R.RowRef.shown (values_in c.args.slots.now) c.in_ok-pipe.pipe (λ w. Covers (world c.args.self.now) (values_in c.args.slots.now) c.in_ok-pipe.pipe w × (is_covered (world c.args.self.now) w c.args.key.now ≡ true) × (is_covered_element (world c.args.self.now) w c.args.element ≡ true)) _ _ _ _ (went_on (world c.args.self.now) (facts c.args.self.now.sources) g.R.TableRow.table_of g.R.RowRef.shown (values_in c.args.slots.now) c.in_ok-pipe.pipe (λ w. Covers (world c.args.self.now) (values_in c.args.slots.now) c.in_ok-pipe.pipe w × (is_covered (world c.args.self.now) w c.args.key.now ≡ true) × (is_covered_element (world c.args.self.now) w c.args.element ≡ true)) (λ w p. p.0) _ _ _ c.loop-pairs.base c.next.new.base c.loop-pairs.invariant.log c.next.ensures.pulled)
-          (λ w start p gr. c.key_pair.ensures.grows w start p.1 p.2 p.0.slots_in (next_passes (world c.args.self.now) (facts c.args.self.now.sources) g.R.TableRow.table_of g.R.RowRef.shown (values_in c.args.slots.now) c.in_ok-pipe.pipe (λ w. Covers (world c.args.self.now) (values_in c.args.slots.now) c.in_ok-pipe.pipe w × (is_covered (world c.args.self.now) w c.args.key.now ≡ true) × (is_covered_element (world c.args.self.now) w c.args.element ≡ true)) (λ w p. p.0) _ _ c.loop-pairs.base _ c.in-Ok.item (items_left (world c.args.self.now) (values_in c.args.slots.now) c.in_ok-pipe.pipe c.next.new.base) c.loop-pairs.invariant.log c.in_ok-pipe.ensures.planned c.in-Ok.is c.in_ok-item.ensures.meant w p) gr);
-    }
-
 pub record-returns-clause-grows : goal.record-returns-clause-grows
 record-returns-clause-grows g t c =
     λ w start h s gr.
@@ -1171,31 +1511,6 @@ select_all-loop-item-preserved g t c =
       meant = select_goes (value_of_item (world c.args.self.now) c.args.body.now c.args.slots.now) c.args.items.now end.Done _ c.loop-item.values _ _ _ _
           c.item-item.is c.loop-item-test.true (sym c.in-Ok.is ∙ c.in_ok-value.ensures.meant) c.in_ok-push-in-Ok.ensures.ok c.loop-item.invariant.meant;
       grows = λ w start h s a gr. c.value_of_item.ensures.grows w start h s (all_there (has_watched_rows w) _ _ _ a c.item-item.is c.loop-item-test.true) (c.loop-item.invariant.grows w start h s a gr);
-    }
-
-pub key_column-returns-clause-grows : goal.key_column-returns-clause-grows
-key_column-returns-clause-grows g t c =
-    λ w start h s a gr.
-    c.loop-item.invariant.grows w start h s a gr
-
-pub key_column-returns-in_err-scalar-clause-grows : goal.key_column-returns-in_err-scalar-clause-grows
-key_column-returns-in_err-scalar-clause-grows g t c =
-    λ w start h s a gr.
-    c.scalar.ensures.grows w start h (slot_more w (values_in c.args.slots.now) _ _ c.with.ensures s (all_there (has_watched_rows w) _ _ _ a c.item-item.is c.loop-item-test.true)) (c.loop-item.invariant.grows w start h s a gr)
-
-pub key_column-returns-in_err-push-clause-grows : goal.key_column-returns-in_err-push-clause-grows
-key_column-returns-in_err-push-clause-grows g t c =
-    λ w start h s a gr.
-    c.scalar.ensures.grows w start h (slot_more w (values_in c.args.slots.now) _ _ c.with.ensures s (all_there (has_watched_rows w) _ _ _ a c.item-item.is c.loop-item-test.true)) (c.loop-item.invariant.grows w start h s a gr)
-
-pub key_column-loop-item-preserved : goal.key_column-loop-item-preserved
-key_column-loop-item-preserved g t c =
-    record {
-      meant = all_goes (key_at (world c.args.self.now) (values_in c.args.slots.now) c.args.key.now) c.args.items.now _ c.loop-item.column _ _ _ _
-          c.item-item.is c.loop-item-test.true
-          (key_answer (world c.args.self.now) (values_in c.args.slots.now) _ _ c.args.key.now (Ok c.in_ok-scalar.scalar) c.with.ensures c.in_ok-scalar.ensures.meant)
-          c.in_ok-push.ensures.ok c.loop-item.invariant.meant;
-      grows = λ w start h s a gr. c.scalar.ensures.grows w start h (slot_more w (values_in c.args.slots.now) _ _ c.with.ensures s (all_there (has_watched_rows w) _ _ _ a c.item-item.is c.loop-item-test.true)) (c.loop-item.invariant.grows w start h s a gr);
     }
 
 pub key_columns-returns-clause-grows : goal.key_columns-returns-clause-grows
@@ -1271,21 +1586,6 @@ expand_item-returns-clause-grows g t c =
     λ w start hi hb s i gr.
     c.read.ensures.grows w start (covered_as (world c.args.self.now) w _ _ c.in_ok-pipe.ensures.source hi) (stage_as (world c.args.self.now) w _ _ c.in_ok-pipe.ensures.stage hb) (slot_more w (values_in c.args.slots.now) _ _ c.with-deeper.ensures s i) gr
 
-pub group_by-returns-clause-grows : goal.group_by-returns-clause-grows
-group_by-returns-clause-grows g t c =
-    λ w start h hk he s gr.
-    c.key_pairs.ensures.grows w start h hk he s gr
-
-pub group_by-returns-in_err-pairs-clause-grows : goal.group_by-returns-in_err-pairs-clause-grows
-group_by-returns-in_err-pairs-clause-grows g t c =
-    λ w start h hk he s gr.
-    c.key_pairs.ensures.grows w start h hk he s gr
-
-pub group_by-returns-in_err-groups-clause-grows : goal.group_by-returns-in_err-groups-clause-grows
-group_by-returns-in_err-groups-clause-grows g t c =
-    λ w start h hk he s gr.
-    c.key_pairs.ensures.grows w start h hk he s gr
-
 pub holds-returns-clause-grows : goal.holds-returns-clause-grows
 holds-returns-clause-grows g t c =
     λ w start h s i gr.
@@ -1296,40 +1596,25 @@ value_of_item-returns-in-None-clause-grows g t c =
     λ w start h s i gr.
     c.evaluate.ensures.grows w start h (slot_more w (values_in c.args.slots.now) _ _ c.with-deeper.ensures s i) gr
 
-pub key_pair-returns-in-Ok-2-clause-grows : goal.key_pair-returns-in-Ok-2-clause-grows
-key_pair-returns-in-Ok-2-clause-grows g t c =
-    λ w start hk he s i gr.
-    c.value_of_item-in-Some.ensures.grows w start (subst (λ e. is_covered_element (world c.args.self.now) w e ≡ true) c.in-Some.is he) s i (c.value_of_item.ensures.grows w start hk s i gr)
-
-pub key_pair-returns-in-Some-clause-grows : goal.key_pair-returns-in-Some-clause-grows
-key_pair-returns-in-Some-clause-grows g t c =
-    λ w start hk he s i gr.
-    c.value_of_item-in-Some.ensures.grows w start (subst (λ e. is_covered_element (world c.args.self.now) w e ≡ true) c.in-Some.is he) s i (c.value_of_item.ensures.grows w start hk s i gr)
-
-pub key_pair-returns-in_err-element-in-Some-clause-grows : goal.key_pair-returns-in_err-element-in-Some-clause-grows
-key_pair-returns-in_err-element-in-Some-clause-grows g t c =
-    λ w start hk he s i gr.
-    c.value_of_item-in-Some.ensures.grows w start (subst (λ e. is_covered_element (world c.args.self.now) w e ≡ true) c.in-Some.is he) s i (c.value_of_item.ensures.grows w start hk s i gr)
-
 pub join-returns-in_err-pairs-clause-grows : goal.join-returns-in_err-pairs-clause-grows
 join-returns-in_err-pairs-clause-grows g t c =
     λ w start h a s gr.
-    c.key_pairs.ensures.grows w start (join_inner (world c.args.self.now) w c.args.joined.now h) (join_inner_key (world c.args.self.now) w c.args.joined.now h) refl s gr
+    c.key_pairs.ensures.grows w start (join_inner (world c.args.self.now) w c.args.joined.now h) (join_inner_key (world c.args.self.now) w c.args.joined.now h) s gr
 
 pub join-returns-in_err-matches-in-Done-clause-grows : goal.join-returns-in_err-matches-in-Done-clause-grows
 join-returns-in_err-matches-in-Done-clause-grows g t c =
     λ w start h a s gr.
-    c.key_pairs.ensures.grows w start (join_inner (world c.args.self.now) w c.args.joined.now h) (join_inner_key (world c.args.self.now) w c.args.joined.now h) refl s gr
+    c.key_pairs.ensures.grows w start (join_inner (world c.args.self.now) w c.args.joined.now h) (join_inner_key (world c.args.self.now) w c.args.joined.now h) s gr
 
 pub join-returns-in_err-outer-in-Done-clause-grows : goal.join-returns-in_err-outer-in-Done-clause-grows
 join-returns-in_err-outer-in-Done-clause-grows g t c =
     λ w start h a s gr.
-    c.key_pairs.ensures.grows w start (join_inner (world c.args.self.now) w c.args.joined.now h) (join_inner_key (world c.args.self.now) w c.args.joined.now h) refl s gr
+    c.key_pairs.ensures.grows w start (join_inner (world c.args.self.now) w c.args.joined.now h) (join_inner_key (world c.args.self.now) w c.args.joined.now h) s gr
 
 pub join-returns-in-Fault-clause-grows : goal.join-returns-in-Fault-clause-grows
 join-returns-in-Fault-clause-grows g t c =
     λ w start h a s gr.
-    c.key_pairs.ensures.grows w start (join_inner (world c.args.self.now) w c.args.joined.now h) (join_inner_key (world c.args.self.now) w c.args.joined.now h) refl s gr
+    c.key_pairs.ensures.grows w start (join_inner (world c.args.self.now) w c.args.joined.now h) (join_inner_key (world c.args.self.now) w c.args.joined.now h) s gr
 
 pub join-returns-in_ok-values-in-Done-clause-grows : goal.join-returns-in_ok-values-in-Done-clause-grows
 join-returns-in_ok-values-in-Done-clause-grows g t c =
@@ -1337,7 +1622,7 @@ join-returns-in_ok-values-in-Done-clause-grows g t c =
     c.join_items.ensures.grows w start h
     (pairs_match (world c.args.self.now) w (values_in c.args.slots.now) c.args.joined.now.inner c.args.joined.now.inner_key _ _ _ c.in_ok-pairs.ensures.meant c.in_ok-matches-in-Done.ensures (join_inner (world c.args.self.now) w c.args.joined.now h) s)
     (covered_as (world c.args.self.now) w _ _ c.in_ok-outer-in-Done.ensures.source a) (stage_as (world c.args.self.now) w _ _ c.in_ok-outer-in-Done.ensures.stage refl) s
-    (c.key_pairs.ensures.grows w start (join_inner (world c.args.self.now) w c.args.joined.now h) (join_inner_key (world c.args.self.now) w c.args.joined.now h) refl s gr)
+    (c.key_pairs.ensures.grows w start (join_inner (world c.args.self.now) w c.args.joined.now h) (join_inner_key (world c.args.self.now) w c.args.joined.now h) s gr)
 
 pub join-returns-in_err-values-in-Done-clause-grows : goal.join-returns-in_err-values-in-Done-clause-grows
 join-returns-in_err-values-in-Done-clause-grows g t c =
@@ -1345,29 +1630,7 @@ join-returns-in_err-values-in-Done-clause-grows g t c =
     c.join_items.ensures.grows w start h
     (pairs_match (world c.args.self.now) w (values_in c.args.slots.now) c.args.joined.now.inner c.args.joined.now.inner_key _ _ _ c.in_ok-pairs.ensures.meant c.in_ok-matches-in-Done.ensures (join_inner (world c.args.self.now) w c.args.joined.now h) s)
     (covered_as (world c.args.self.now) w _ _ c.in_ok-outer-in-Done.ensures.source a) (stage_as (world c.args.self.now) w _ _ c.in_ok-outer-in-Done.ensures.stage refl) s
-    (c.key_pairs.ensures.grows w start (join_inner (world c.args.self.now) w c.args.joined.now h) (join_inner_key (world c.args.self.now) w c.args.joined.now h) refl s gr)
-
-pub join_item-returns-in_err-key-clause-grows : goal.join_item-returns-in_err-key-clause-grows
-join_item-returns-in_err-key-clause-grows g t c =
-    λ w start h m s i gr.
-    c.value_of_item.ensures.grows w start (join_outer_key (world c.args.self.now) w c.args.joined.now h) s i gr
-
-pub join_item-returns-in_err-inner-in-Ok-clause-grows : goal.join_item-returns-in_err-inner-in-Ok-clause-grows
-join_item-returns-in_err-inner-in-Ok-clause-grows g t c =
-    λ w start h m s i gr.
-    c.value_of_item.ensures.grows w start (join_outer_key (world c.args.self.now) w c.args.joined.now h) s i gr
-
-pub join_item-returns-in-Err-clause-grows : goal.join_item-returns-in-Err-clause-grows
-join_item-returns-in-Err-clause-grows g t c =
-    λ w start h m s i gr.
-    c.value_of_item.ensures.grows w start (join_outer_key (world c.args.self.now) w c.args.joined.now h) s i gr
-
-pub join_item-returns-in_ok-inner-in-Ok-clause-grows : goal.join_item-returns-in_ok-inner-in-Ok-clause-grows
-join_item-returns-in_ok-inner-in-Ok-clause-grows g t c =
-    λ w start h m s i gr.
-    c.select_all.ensures.grows w start (join_result (world c.args.self.now) w c.args.joined.now h) (slot_more w (values_in c.args.slots.now) _ _ c.with-deeper.ensures s i)
-    (ap (have_watched_rows w) (c.as_slice.ensures ∙ c.in_ok-inner-in-Ok.ensures (world c.args.self.now)) ∙ matched_pass w (world c.args.self.now) _ _ _ m)
-    (c.value_of_item.ensures.grows w start (join_outer_key (world c.args.self.now) w c.args.joined.now h) s i gr)
+    (c.key_pairs.ensures.grows w start (join_inner (world c.args.self.now) w c.args.joined.now h) (join_inner_key (world c.args.self.now) w c.args.joined.now h) s gr)
 
 pub order_by-returns-clause-grows : goal.order_by-returns-clause-grows
 order_by-returns-clause-grows g t c =

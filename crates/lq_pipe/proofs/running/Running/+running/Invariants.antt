@@ -1,6 +1,6 @@
 -- What each function of the running goes down by: the size of the form, and at one size how far the function stands from `evaluate`; and
 -- what each loop keeps.
-use Rattle.std.proofs.Common.{◌≡◌, ◌+◌, ◌*◌, ◌++◌, List, Ok, length, map, max, drop, true}
+use Rattle.std.proofs.Common.{◌≡◌, ◌+◌, ◌*◌, ◌++◌, List, None, Some, Ok, length, map, max, drop, true}
 use Rattle.lq_host.specs.declared.call.Call.{Call}
 use Rattle.lq_language.specs.Arrangement.{all_of}
 use Rattle.lq_language.specs.Operations.{on_ok}
@@ -11,6 +11,8 @@ use Rattle.lq_value.specs.declared.value.End.TheVariants as end
 use Rattle.lq_tree.specs.declared.tree.Form.{size-Form}
 use Rattle.lq_tree.specs.FormMeaning.{members_of}
 use Rattle.lq_tree.specs.Watches.{Watch, are_covered_fields, are_covered_keys, have_watched_rows, is_covered, is_covered_join}
+use Rattle.lq_operators.specs.Firsts.{firsts_in}
+use Rattle.lq_operators.specs.Groups.{groups_in}
 use Rattle.lq_operators.specs.Matching.{pairs_of}
 use Rattle.lq_operators.specs.Tallies.{tallied}
 use Rattle.lq_plan.specs.Arrangements.{column_of, key_at}
@@ -20,14 +22,16 @@ use Rattle.lq_plan.specs.Meanings.{holds_of, items_meant, value_of_item}
 use Rattle.lq_plan.specs.Handing.{StaysOfRows, handed_out, rows_to_come}
 use Rattle.lq_plan.specs.Pipes.{all_items, items_left}
 use Rattle.lq_plan.specs.PlannedRows.{kept_stream}
+use Rattle.lq_plan.specs.Pulling.{through_select, through_stage}
 use Rattle.lq_plan.specs.Slots.{values_in}
-use Rattle.lq_plan.specs.Watching.{facts, is_covered_element, matches_pass, watches}
+use Rattle.lq_plan.specs.Watching.{facts, matches_pass, watches}
 use Rattle.lq_pipe.specs.Handing.{Passes}
-use Rattle.lq_pipe.specs.Items.{item_expansion, item_join, keys_and_elements, stream_expansion, stream_join}
-use Rattle.lq_pipe.specs.Runs.{Grown, HasTaken, covers, world}
+use Rattle.lq_pipe.specs.Items.{item_expansion, item_join, key_and_element, keys_and_elements, stream_expansion, stream_join}
+use Rattle.lq_pipe.specs.Runs.{Grown, HasTaken, covers, covers_stage, world}
+use Rattle.lq_pipe.proofs.GroupLemmas.{Firsts, Grouped}
 use Rattle.lq_pipe.proofs.LogLemmas.{Covers, Keeps}
 use Rattle.lq_pipe.proofs.PullLaws.{Comes}
-use Rattle.lq_pipe.proofs.Sizes.{body_size, pipe_size, stage_size}
+use Rattle.lq_pipe.proofs.Sizes.{pipe_size, stage_size}
 use Rattle.lq_pipe.proofs.StreamLemmas.{Goes}
 use Rattle.lq_pipe.proofs.running.Running.+running.Given as goal
 
@@ -51,6 +55,9 @@ decreases-truth_of_two g l = 32 * max (size-Form l.left.now) (size-Form l.right.
 
 abbrev pub decreases-value_of_item : goal.decreases-value_of_item
 decreases-value_of_item g l = 32 * size-Form l.body.now + 2
+
+abbrev pub decreases-value_by : goal.decreases-value_by
+decreases-value_by g l = 32 * size-Form l.lambda.now.body.now + 3
 
 abbrev pub decreases-select_all : goal.decreases-select_all
 decreases-select_all g l = 32 * size-Form l.body.now + 4
@@ -106,17 +113,32 @@ decreases-expand g l = 32 * max (pipe_size l.pipe.now) (max (size-Form l.inner.n
 abbrev pub decreases-select_many : goal.decreases-select_many
 decreases-select_many g l = 32 * max (size-Form l.source.now) (max (size-Form l.inner.now) (size-Form l.body.now)) + 22
 
-abbrev pub decreases-key_pair : goal.decreases-key_pair
-decreases-key_pair g l = 32 * max (size-Form l.key.now) (body_size l.element) + 4
-
 abbrev pub decreases-key_pairs : goal.decreases-key_pairs
-decreases-key_pairs g l = 32 * max (size-Form l.source.now) (max (size-Form l.key.now) (body_size l.element)) + 18
+decreases-key_pairs g l = 32 * max (size-Form l.source.now) (size-Form l.key.now) + 18
 
 abbrev pub decreases-join_item : goal.decreases-join_item
 decreases-join_item g l = 32 * goal.size-join_item g l + 8
 
 abbrev pub decreases-join : goal.decreases-join
 decreases-join g l = 32 * max (goal.size-join g l) (size-Form l.source.now) + 20
+
+abbrev pub decreases-key_and_element : goal.decreases-key_and_element
+decreases-key_and_element g l = 32 * max (size-Form l.key.now.body.now) (size-Form l.element.now.body.now) + 4
+
+abbrev pub decreases-grouped : goal.decreases-grouped
+decreases-grouped g l = 32 * max (pipe_size l.pipe.now) (max (size-Form l.key.now.body.now) (size-Form l.element.now.body.now)) + 16
+
+abbrev pub decreases-key_of : goal.decreases-key_of
+decreases-key_of g l = 32 * size-Form l.key.now.body.now + 5
+
+abbrev pub decreases-distinct : goal.decreases-distinct
+decreases-distinct g l = 32 * pipe_size l.pipe.now + 16
+
+abbrev pub decreases-tally_by : goal.decreases-tally_by
+decreases-tally_by g l = 32 * size-Form l.lambda.now.body.now + 5
+
+abbrev pub decreases-tally_lambda : goal.decreases-tally_lambda
+decreases-tally_lambda g l = 32 * size-Form l.lambda.now.body.now + 6
 
 abbrev pub decreases-group_by : goal.decreases-group_by
 decreases-group_by g l = 32 * max (size-Form l.source.now) (max (size-Form l.key.now) (size-Form l.element.now)) + 20
@@ -152,7 +174,31 @@ abbrev pub decreases-next : goal.decreases-next
 decreases-next g l = 32 * pipe_size l.pipe.now + 14
 
 abbrev pub decreases-tally : goal.decreases-tally
-decreases-tally g l = 32 * pipe_size l.pipe.now + 16
+decreases-tally g l = 32 * pipe_size l.pipe.now + 17
+
+abbrev pub decreases-tally_pulled : goal.decreases-tally_pulled
+decreases-tally_pulled g l = 32 * pipe_size l.pipe.now + 16
+
+abbrev pub decreases-tally_select : goal.decreases-tally_select
+decreases-tally_select g l = 32 * size-Form l.body.now + 4
+
+abbrev pub decreases-tally_row : goal.decreases-tally_row
+decreases-tally_row g l = 32 * stage_size l.pipe.now.stage + 5
+
+abbrev pub decreases-tally_through : goal.decreases-tally_through
+decreases-tally_through g l = 32 * max (size-Form l.source.now) (stage_size l.stage.now) + 13
+
+abbrev pub decreases-tally_next : goal.decreases-tally_next
+decreases-tally_next g l = 32 * pipe_size l.pipe.now + 14
+
+abbrev pub decreases-give : goal.decreases-give
+decreases-give g l = 32 * size-Form l.body.now + 4
+
+abbrev pub decreases-tally_item : goal.decreases-tally_item
+decreases-tally_item g l = 32 * stage_size l.stage.now + 8
+
+abbrev pub decreases-tally_items : goal.decreases-tally_items
+decreases-tally_items g l = 32 * stage_size l.stage.now + 10
 
 abbrev pub decreases-has_item : goal.decreases-has_item
 decreases-has_item g l = 32 * pipe_size l.pipe.now + 16
@@ -184,9 +230,6 @@ decreases-join_items g l = 32 * max (goal.size-join_items g l) (pipe_size l.pipe
 abbrev pub decreases-pass_row : goal.decreases-pass_row
 decreases-pass_row g l = 32 * stage_size l.pipe.now.stage + 5
 
-abbrev pub decreases-pass_pulled : goal.decreases-pass_pulled
-decreases-pass_pulled g l = 32 * pipe_size l.pipe.now + 13
-
 -- ---- loops
 
 -- what was made, and what comes of the items that are left
@@ -196,6 +239,23 @@ invariant-select_all-loop-item g l =
       meant : Goes (λ v. one (value_of_item (world l.fn.self) l.fn.body l.fn.slots v)) l.items end.Done
           (select_by (value_of_item (world l.fn.self) l.fn.body l.fn.slots) l.items end.Done) l.values l.item-index;
       grows : ((w : Watch _) (start : List Call) → covers l.fn.self w l.fn.body ≡ true → watches w l.fn.slots ≡ true → have_watched_rows w l.items ≡ true → Grown l.fn.self w start l.fn.log → Grown l.fn.self w start l.log);
+    }
+
+-- the tally so far comes to the same over what comes of the items that are left
+abbrev pub invariant-tally_items-loop-item : goal.invariant-tally_items-loop-item
+invariant-tally_items-loop-item g l =
+    record {
+      meant : tallied l.fn.of l.tally (through_stage (world l.fn.self) (values_in l.fn.slots) l.fn.stage (drop l.item-index l.items, l.fn.end))
+          ≡ tallied l.fn.of l.fn.tally (through_stage (world l.fn.self) (values_in l.fn.slots) l.fn.stage (l.items, l.fn.end));
+      grows : ((w : Watch _) (start : List Call) → covers_stage l.fn.self w l.fn.stage ≡ true → watches w l.fn.slots ≡ true → have_watched_rows w l.items ≡ true → Grown l.fn.self w start l.fn.log → Grown l.fn.self w start l.log);
+    }
+
+abbrev pub invariant-tally_lambda-loop-item : goal.invariant-tally_lambda-loop-item
+invariant-tally_lambda-loop-item g l =
+    record {
+      meant : tallied l.fn.of l.tally (through_select (world l.fn.self) (values_in l.fn.slots) l.fn.lambda.body.now (drop l.item-index l.items, l.fn.end))
+          ≡ tallied l.fn.of l.fn.tally (through_select (world l.fn.self) (values_in l.fn.slots) l.fn.lambda.body.now (l.items, l.fn.end));
+      grows : ((w : Watch _) (start : List Call) → covers l.fn.self w l.fn.lambda.body.now ≡ true → watches w l.fn.slots ≡ true → have_watched_rows w l.items ≡ true → Grown l.fn.self w start l.fn.log → Grown l.fn.self w start l.log);
     }
 
 -- the members so far, and those that are left
@@ -232,8 +292,8 @@ invariant-key_columns-loop-key g l =
 -- ---- loops that pull
 
 -- what is left of a pipe is what was left before, an item that was dropped aside
-abbrev pub invariant-next-loop-pulled : goal.invariant-next-loop-pulled
-invariant-next-loop-pulled g l =
+abbrev pub invariant-next-loop-row : goal.invariant-next-loop-row
+invariant-next-loop-row g l =
     record {
       meant : items_left (world l.fn.self) (values_in l.fn.slots) l.fn.pipe l.base ≡ items_left (world l.fn.self) (values_in l.fn.slots) l.fn.pipe l.fn.base;
       pulled : HasTaken l.fn.self l.fn.slots l.fn.pipe l.fn.base l.fn.log l.base l.log;
@@ -241,8 +301,8 @@ invariant-next-loop-pulled g l =
       alone : StaysOfRows l.fn.base l.base;
     }
 
-abbrev pub decreases-next-loop-pulled : goal.decreases-next-loop-pulled
-decreases-next-loop-pulled g l = length (kept_stream g.R.TableRow.table_of g.R.RowRef.shown l.fn.pipe.plan l.base).0
+abbrev pub decreases-next-loop-row : goal.decreases-next-loop-row
+decreases-next-loop-row g l = length (kept_stream g.R.TableRow.table_of g.R.RowRef.shown l.fn.pipe.plan l.base).0
 
 -- the items so far, and those that are left up to the limit
 abbrev pub invariant-read-loop-less : goal.invariant-read-loop-less
@@ -256,15 +316,15 @@ abbrev pub decreases-read-loop-less : goal.decreases-read-loop-less
 decreases-read-loop-less g l = length (items_left (world l.fn.self) (values_in l.fn.slots) l.fn.pipe l.base).0
 
 -- the tally so far comes to the same over the items that are left
-abbrev pub invariant-tally-loop-base : goal.invariant-tally-loop-base
-invariant-tally-loop-base g l =
+abbrev pub invariant-tally_pulled-loop-pulled : goal.invariant-tally_pulled-loop-pulled
+invariant-tally_pulled-loop-pulled g l =
     record {
       meant : tallied l.fn.of l.tally (items_left (world l.fn.self) (values_in l.fn.slots) l.fn.pipe l.base) ≡ tallied l.fn.of l.fn.tally (all_items (world l.fn.self) (values_in l.fn.slots) l.fn.pipe);
       log : Keeps (world l.fn.self) (facts l.fn.self.sources) g.R.TableRow.table_of g.R.RowRef.shown (values_in l.fn.slots) l.fn.pipe (Covers (world l.fn.self) (values_in l.fn.slots) l.fn.pipe) l.fn.log l.log l.base;
     }
 
-abbrev pub decreases-tally-loop-base : goal.decreases-tally-loop-base
-decreases-tally-loop-base g l = length (items_left (world l.fn.self) (values_in l.fn.slots) l.fn.pipe l.base).0
+abbrev pub decreases-tally_pulled-loop-pulled : goal.decreases-tally_pulled-loop-pulled
+decreases-tally_pulled-loop-pulled g l = length (kept_stream g.R.TableRow.table_of g.R.RowRef.shown l.fn.pipe.plan l.base).0
 
 -- what the items that are left answer is what all answer
 abbrev pub invariant-has_item-loop-base : goal.invariant-has_item-loop-base
@@ -315,10 +375,33 @@ decreases-join_items-loop-values g l = length (items_left (world l.fn.self) (val
 abbrev pub invariant-key_pairs-loop-pairs : goal.invariant-key_pairs-loop-pairs
 invariant-key_pairs-loop-pairs g l =
     record {
-      meant : then_ending l.pairs end.Done (keys_and_elements (world l.fn.self) (values_in l.fn.slots) l.fn.key l.fn.element (items_left (world l.fn.self) (values_in l.fn.slots) l.pipe l.base))
-          ≡ keys_and_elements (world l.fn.self) (values_in l.fn.slots) l.fn.key l.fn.element (items_meant (world l.fn.self) l.fn.source l.fn.slots);
-      log : Keeps (world l.fn.self) (facts l.fn.self.sources) g.R.TableRow.table_of g.R.RowRef.shown (values_in l.fn.slots) l.pipe (λ w. Covers (world l.fn.self) (values_in l.fn.slots) l.pipe w × (is_covered (world l.fn.self) w l.fn.key ≡ true) × (is_covered_element (world l.fn.self) w l.fn.element ≡ true)) l.fn.log l.log l.base;
+      meant : then_ending l.pairs end.Done (keys_and_elements (world l.fn.self) (values_in l.fn.slots) l.fn.key None (items_left (world l.fn.self) (values_in l.fn.slots) l.pipe l.base))
+          ≡ keys_and_elements (world l.fn.self) (values_in l.fn.slots) l.fn.key None (items_meant (world l.fn.self) l.fn.source l.fn.slots);
+      log : Keeps (world l.fn.self) (facts l.fn.self.sources) g.R.TableRow.table_of g.R.RowRef.shown (values_in l.fn.slots) l.pipe (λ w. Covers (world l.fn.self) (values_in l.fn.slots) l.pipe w × (is_covered (world l.fn.self) w l.fn.key ≡ true)) l.fn.log l.log l.base;
     }
 
 abbrev pub decreases-key_pairs-loop-pairs : goal.decreases-key_pairs-loop-pairs
 decreases-key_pairs-loop-pairs g l = length (items_left (world l.fn.self) (values_in l.fn.slots) l.pipe l.base).0
+
+-- the groups so far are those of the pairs so far
+abbrev pub invariant-grouped-loop-grouping : goal.invariant-grouped-loop-grouping
+invariant-grouped-loop-grouping g l =
+    record {
+      meant : Grouped (key_and_element (world l.fn.self) (values_in l.fn.slots) l.fn.key.body.now (Some l.fn.element.body)) (groups_in l.grouping) (items_left (world l.fn.self) (values_in l.fn.slots) l.fn.pipe l.base)
+          (keys_and_elements (world l.fn.self) (values_in l.fn.slots) l.fn.key.body.now (Some l.fn.element.body) (all_items (world l.fn.self) (values_in l.fn.slots) l.fn.pipe));
+      log : Keeps (world l.fn.self) (facts l.fn.self.sources) g.R.TableRow.table_of g.R.RowRef.shown (values_in l.fn.slots) l.fn.pipe (λ w. Covers (world l.fn.self) (values_in l.fn.slots) l.fn.pipe w × (is_covered (world l.fn.self) w l.fn.key.body.now ≡ true) × (is_covered (world l.fn.self) w l.fn.element.body.now ≡ true)) l.fn.log l.log l.base;
+    }
+
+abbrev pub decreases-grouped-loop-grouping : goal.decreases-grouped-loop-grouping
+decreases-grouped-loop-grouping g l = length (items_left (world l.fn.self) (values_in l.fn.slots) l.fn.pipe l.base).0
+
+-- the first items so far are those of the items so far
+abbrev pub invariant-distinct-loop-distinct : goal.invariant-distinct-loop-distinct
+invariant-distinct-loop-distinct g l =
+    record {
+      meant : Firsts (firsts_in l.distinct) (items_left (world l.fn.self) (values_in l.fn.slots) l.fn.pipe l.base) (all_items (world l.fn.self) (values_in l.fn.slots) l.fn.pipe);
+      log : Keeps (world l.fn.self) (facts l.fn.self.sources) g.R.TableRow.table_of g.R.RowRef.shown (values_in l.fn.slots) l.fn.pipe (Covers (world l.fn.self) (values_in l.fn.slots) l.fn.pipe) l.fn.log l.log l.base;
+    }
+
+abbrev pub decreases-distinct-loop-distinct : goal.decreases-distinct-loop-distinct
+decreases-distinct-loop-distinct g l = length (items_left (world l.fn.self) (values_in l.fn.slots) l.fn.pipe l.base).0

@@ -6,6 +6,9 @@ use Rattle.lq_plan.proofs.sources.Sources.+preparing.Given as goal
 abbrev pub decreases-condition : goal.decreases-condition
 decreases-condition g l = 2 * size-Form l.form.now
 
+abbrev pub decreases-unary_condition : goal.decreases-unary_condition
+decreases-unary_condition g l = 2 * size-Form l.operand.now + 1
+
 abbrev pub decreases-both_condition : goal.decreases-both_condition
 decreases-both_condition g l = 2 * max (size-Form l.left.now) (size-Form l.right.now) + 1
 

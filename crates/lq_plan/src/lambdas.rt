@@ -1,0 +1,82 @@
+//! Lambdas, and what is found out about them once for all items.
+ghost use Rattle.std.specs.Prelude.{◌≡◌, IfSome, Ok};
+ghost use Rattle.lq_value.specs.declared.value.Value.{Value};
+ghost use Rattle.lq_value.specs.declared.value.Value.TheVariants as value;
+
+use crate::rows::Reads;
+use crate::slots::Slots;
+use crate::sources::Sources;
+use crate::tables::TableRow;
+use lq_host::Asks;
+use lq_tree::Form;
+use lq_value::{Scalar, TableNumber, Value};
+
+/// A lambda, and which cell it gives of the rows of a table, where it is known to give one.
+#[derive(Clone, Copy, Drop)]
+pub struct Lambda<'f> {
+    /// What the lambda gives of the item in its slot.
+    pub body: &'f Form,
+    /// The number of the table.
+    pub(crate) table: TableNumber,
+    /// The place of the cell.
+    pub(crate) place: Option<usize>,
+}
+
+impl Lambda<'_> {
+    ghost use Rattle.std.specs.Prelude.{List};
+    ghost use Rattle.lq_language.specs.Worlds.{World};
+    ghost use Rattle.lq_tree.specs.FormMeaning.{form_meaning, with_item};
+    ghost use Rattle.lq_plan.specs.Prepared.{GivesCell};
+
+    /// The cell that the lambda gives of a row, where it stands.
+    #[inline]
+    pub fn cell_of_row<'r, R: TableRow>(&self, row: &'r R) -> Option<&'r Scalar>
+        ensures { (world : World R) (slots : List (Value R))
+            → GivesCell R.table_of R.shown world slots self.now
+            → IfSome result (λ s. form_meaning world self.now.body.now
+            (with_item world slots (value.Row row.now)) ≡ Ok (value.Scalar s.now)) }
+    {
+        if row.table() == self.table {
+            return row.cells().get(self.place?);
+        }
+        None
+    }
+
+    /// The same of an item. None means nothing: what the lambda gives of it, which may still be a scalar, is
+    /// found by evaluating it.
+    #[inline]
+    pub fn cell<'v, R: TableRow>(&self, item: &'v Value<R>) -> Option<&'v Scalar>
+        ensures { (world : World R) (slots : List (Value R))
+            → GivesCell R.table_of R.shown world slots self.now
+            → IfSome result (λ s. form_meaning world self.now.body.now
+            (with_item world slots item.now) ≡ Ok (value.Scalar s.now)) }
+    {
+        match item {
+            Value::Row(row) => self.cell_of_row(row),
+            Value::Scalar(_) | Value::Rec(_) | Value::Group(_, _) | Value::Seq(_, _) => None,
+        }
+    }
+}
+
+/// The number of the table whose cell a form is, where it is one. Any answer is right: each row is asked for its table.
+fn table_of_cell(body: &Form) -> TableNumber {
+    match body {
+        Form::Column(_, table, _) => *table,
+        _ => 0,
+    }
+}
+
+impl<'a, R: TableRow, S: Reads<R>, H: Asks> Sources<'a, R, S, H> {
+    ghost use Rattle.std.specs.Prelude.{◌≡◌};
+    ghost use Rattle.lq_plan.specs.Plans.{GivesCell};
+
+    /// A lambda, whose item stands in the slot after these. Takes no memory.
+    pub fn lambda<'f>(&self, body: &'f Form, slots: &Slots<'_, R>) -> Lambda<'f>
+        ensures body { result.body.now ≡ body.now }
+        ensures cell { GivesCell self.now slots.now result }
+    {
+        let table = table_of_cell(body);
+        let place = self.cell_place(body, table, slots);
+        Lambda { body, table, place }
+    }
+}
