@@ -13,7 +13,7 @@ RUNS = 3
 MOST_OF_SQLITE = 0.3
 MOST_MEMORY = 10
 # Of the instructions of a scan of a table without row security, loading left out.
-MOST_OF_OPEN = 2.2
+MOST_OF_OPEN = 1.4
 # Millions of instructions.
 MOST_OF_LOADING = 1_000
 # Instructions a row, without row security.

@@ -10,6 +10,7 @@ import files
 import host_examples
 import host_lines
 import host_sessions
+import planned_lines
 import policy_examples
 import policy_files
 import queries
@@ -41,7 +42,9 @@ SESSIONS = 600
 # Queries by chance that ask host predicates, and then sessions that do.
 FIRST_OF_HOSTS = FIRST_OF_SESSIONS + SESSIONS
 FIRST_OF_HOST_SESSIONS = FIRST_OF_HOSTS + 160
-CASES = FIRST_OF_HOST_SESSIONS + 120
+# Queries by chance whose conditions, keys, aggregates and orders are found out once.
+FIRST_OF_PLANNED = FIRST_OF_HOST_SESSIONS + 120
+CASES = FIRST_OF_PLANNED + 160
 LINES_OF_QUERIES = 20
 NO_UTF8 = [
     b"\x80", b"\xff", b"\xc3", b"\xc0\x80", b"\xe2\x82", b"\xed\xa0\x80", b"\xf4\x90\x80\x80", b"\xf0\x9f\x98", b"\xef\xbb",
@@ -363,8 +366,8 @@ def host_session_case(dice):
 
 
 def case_of(number, fixed):
-    """The case of a number: first the fixed ones, then those by chance, whose number is the seed; that of a session, and that of a case of
-    host predicates, is counted from the first of its kind on. The known lines over the small company and the known sessions are between these."""
+    """The case of a number: first the fixed ones, then those by chance, whose number is the seed; that of a session, that of a case of
+    host predicates, and that of queries which are found out once, is counted from the first of its kind on. The known lines over the small company and the known sessions are between these."""
     if number < len(fixed):
         return fixed[number]
     if FIRST_OF_COMPANY <= number < FIRST_OF_QUERIES:
@@ -372,6 +375,8 @@ def case_of(number, fixed):
     if FIRST_OF_KNOWN_SESSIONS <= number < FIRST_OF_SESSIONS:
         text, pairs = session_examples.KNOWN[number - FIRST_OF_KNOWN_SESSIONS]
         return of_company(text.encode(), script=session_examples.script_of(pairs))
+    if number >= FIRST_OF_PLANNED:
+        return queries_case(random.Random(f"planned {number - FIRST_OF_PLANNED}"), planned_lines.line)
     if number >= FIRST_OF_HOST_SESSIONS:
         return host_session_case(random.Random(f"hosts in session {number - FIRST_OF_HOST_SESSIONS}"))
     if number >= FIRST_OF_HOSTS:
