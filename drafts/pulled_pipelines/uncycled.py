@@ -7,7 +7,7 @@ blocks=re.split(r'\n(?=pub )',body)
 i0=min(x for x in [inv.find('\nabbrev pub '),inv.find('\n-- ')] if x>0)
 ihead=inv[:inv.index('\nabbrev pub ')]
 iblocks=re.split(r'\n(?=(?:-- [^\n]*\n)*abbrev pub )',inv)
-files=['running','methods','operations','clauses','conditions','pulling']
+files=['running','methods','tallies','operations','clauses','conditions','pulling']
 src={f:open(f'src/{f}.rt').read() for f in files}
 fns={}
 for f in files:
