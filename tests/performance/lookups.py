@@ -60,6 +60,10 @@ def least_time(words):
     return min(milliseconds(words) for _ in range(RUNS))
 
 
+def shown_time(milliseconds):
+    return f"{milliseconds:.0f} ms" if milliseconds >= 1 else "less than two runs differ by"
+
+
 def peak(program, subject, what):
     """The peak of memory of one run in bytes."""
     words = [sys.executable, "-E", "-S", "-c", STARTER, program, subject, what]
@@ -81,7 +85,7 @@ def compare(program):
     for subject, what, less, name, wanted, most in WORK:
         time = added(least_time, program, subject, what, less)
         count = added(measuring.count_command, program, subject, what, less) / 1e6
-        print(f"performance: {KEYS:,} keys, {name}: {time:.0f} ms, {wanted} wanted; {count:.0f} million instructions, at most {most}")
+        print(f"performance: {KEYS:,} keys, {name}: {shown_time(time)}, {wanted} wanted; {count:.0f} million instructions, at most {most}")
         if not 0 < count <= most:
             above.append(name)
         if what == "build" and subject in COPY:

@@ -80,17 +80,29 @@ def write_delete(name, count):
     write(f"{name}.reply", f'{{"deleted":{count // 2}}}\n')
 
 
-def least_time(*words):
-    return min(measuring.run(*words)[0] for _ in range(RUNS))
+def words_of(program, table, script):
+    """The words of a run of a script, on a table and under the policies beside it."""
+    return program, table, f"{script}.script", f"{script}.reply", table.replace(".csv", ".toml")
 
 
-def added(measure, program, table, name):
-    """What a script takes over an empty one, on the same table and under the policies beside it."""
-    policy = table.replace(".csv", ".toml")
-    with_script, without = (measure(program, table, f"{one}.script", f"{one}.reply", policy) for one in (name, "nothing"))
+def added(program, table, name):
+    """The instructions that a script takes over an empty one."""
+    with_script, without = (measuring.count(*words_of(program, table, script)) for script in (name, "nothing"))
     if with_script <= without:
-        raise Failure(f"{name}: {with_script} and {without} without it were measured, which cannot be")
+        raise Failure(f"{name}: {with_script} instructions and {without} without it were counted, which cannot be")
     return with_script - without
+
+
+def added_time(program, table, name):
+    """The seconds that a script takes over an empty one, each the least of a few runs, which are judged by nobody: on a busy machine they
+    may be less than none."""
+    times = [[measuring.run(*words_of(program, table, script))[0] for script in (name, "nothing")] for _ in range(RUNS)]
+    with_script, without = (min(column) for column in zip(*times))
+    return with_script - without
+
+
+def shown_time(seconds, scale, unit):
+    return f"{seconds * scale:.2f} {unit}" if seconds >= 0.001 else "less than two runs differ by"
 
 
 def check(name, times, count, most):
@@ -105,11 +117,11 @@ def compare_inserts(program):
     write("notes.toml", CHECKED)
     size = write_inserts("inserts", INSERTS)
     write_inserts("half", INSERTS // 2)
-    counts = [added(measuring.count, program, "notes.csv", name) for name in ("half", "inserts")]
+    counts = [added(program, "notes.csv", name) for name in ("half", "inserts")]
     times = counts[1] / counts[0]
-    time = added(least_time, program, "notes.csv", "inserts") / INSERTS
+    time = shown_time(added_time(program, "notes.csv", "inserts"), 1e6 / INSERTS, "microseconds each")
     print(f"sessions: {INSERTS:,} inserts in {size} bytes, {counts[1] / INSERTS:.0f} instructions each, {times:.2f} times those of half"
-          f" as many; {time * 1e6:.2f} microseconds each, {WANTED} wanted", flush=True)
+          f" as many; {time}, {WANTED} wanted", flush=True)
     check("inserts", times, counts[1] / INSERTS, MOST_INSTRUCTIONS)
 
 
@@ -120,11 +132,11 @@ def compare_deletes(program):
         write_rows(f"{name}/staff.csv", rows)
         write(f"{name}/staff.toml", OPEN)
         write_delete(name, rows)
-        counts.append(added(measuring.count, program, f"{name}/staff.csv", name))
+        counts.append(added(program, f"{name}/staff.csv", name))
     times = counts[1] / counts[0]
-    time = added(least_time, program, "all_rows/staff.csv", "all_rows")
+    time = shown_time(added_time(program, "all_rows/staff.csv", "all_rows"), 1000, "ms")
     print(f"sessions: half of {ROWS:,} rows deleted in {counts[1] / 1e6:.1f} million instructions, {times:.2f} times those of half as"
-          f" many rows; {time * 1000:.0f} ms, {WANTED_TO_DELETE} wanted", flush=True)
+          f" many rows; {time}, {WANTED_TO_DELETE} wanted", flush=True)
     check("deletes", times, counts[1], MOST_INSTRUCTIONS_TO_DELETE)
 
 
