@@ -3,4 +3,5 @@ pub mod OrderLemmas
 pub mod PushLaws
 pub mod PushLemmas
 pub mod ShapeLemmas
-pub mod Tokens
+pub mod TextLemmas
+pub mod Written

@@ -10,15 +10,15 @@ use Rattle.lq_value.specs.declared.ty.Ty.TheVariants.{outs-Rec as outs-ty-Rec}
 use Rattle.lq_value.specs.declared.value.Fault.{Fault}
 use Rattle.lq_value.specs.declared.value.Value.{Value, map-Value, out-Value}
 use Rattle.lq_value.specs.declared.value.Value.TheVariants as value
-use Rattle.lq_value.specs.declared.value.Value.TheVariants.{outs-Rec}
-use Rattle.lq_machine.specs.Served.{fault_step, first_member, nested_fault}
+use Rattle.lq_value.specs.declared.value.Value.TheVariants.{outs-Group, outs-Rec}
+use Rattle.lq_machine.specs.Served.{fault_step, first_member, group_members, nested_fault}
 use Rattle.lq_value.specs.declared.value.Value as of_value
 use Rattle.lq_machine.proofs.ServedLaws.{fault_out}
 use Rattle.lq_json.specs.Shapes.{by_step, data_by, fields_by, fields_from, fields_in, layer_by, member_data, shape_of, shape_step}
 use Rattle.lq_json.specs.declared.shape.Shape.{Shape, fold_out-Shape, map-Shape, out-Shape}
 use Rattle.lq_json.specs.declared.shape.Shape as of_shape
 use Rattle.lq_json.specs.declared.shape.Shape.TheVariants as shape
-use Rattle.lq_json.specs.declared.shape.Shape.TheVariants.{outs-Rec as outs-shape-Rec}
+use Rattle.lq_json.specs.declared.shape.Shape.TheVariants.{outs-Group as outs-shape-Group, outs-Rec as outs-shape-Rec}
 
 module _ {R : Type 0} (cells_of : R → List Scalar) where
   pub data_out : (f : Shape) (v : Value R) → data_by cells_of f v ≡ layer_by cells_of (map-Shape Shape (Value R → Data) (data_by cells_of) (out-Shape f)) (out-Value R v)
@@ -36,6 +36,12 @@ module _ {R : Type 0} (cells_of : R → List Scalar) where
       ap object (sym (fields_mapped fs ms))
       ∙ sym (ap₂ (data_by cells_of) f_is v_is ∙ data_out (shape.Rec fs) (value.Rec ms)
       ∙ ap₂ (λ layer of_value. layer_by cells_of (map-Shape Shape (Value R → Data) (data_by cells_of) layer) of_value) (outs-shape-Rec fs) (outs-Rec ms))
+
+  pub group_out : (f : Shape) (v : Value R) (of_key of_item : Shape) (key : Value R) (items : List (Value R)) → f ≡ shape.Group of_key of_item → v ≡ value.Group key items
+      → object (group_members (data_by cells_of of_key key) (map (data_by cells_of of_item) items)) ≡ data_by cells_of f v
+  group_out f v of_key of_item key items f_is v_is =
+      sym (ap₂ (data_by cells_of) f_is v_is ∙ data_out (shape.Group of_key of_item) (value.Group key items)
+      ∙ ap₂ (λ layer of_value. layer_by cells_of (map-Shape Shape (Value R → Data) (data_by cells_of) layer) of_value) (outs-shape-Group of_key of_item) (outs-Group key items))
 
 -- ---- faults
 

@@ -1,6 +1,7 @@
 -- Items that are pushed one by one.
-use Rattle.std.proofs.Common.{◌≡◌, ◌∷◌, ◌++◌, ◌∙◌, List, [], ap, append-nil, append_assoc, subst, sym}
+use Rattle.std.proofs.Common.{◌≡◌, ◌∷◌, ◌++◌, ◌∙◌, List, [], true, false, ap, ap₂, append_assoc, refl, subst, sym}
 use Rattle.serde_json.specs.Data.{Data}
+use Rattle.serde_json.specs.Written.{comma_if, compact_text}
 use Rattle.lq_value.specs.declared.scalar.Scalar.{Scalar}
 use Rattle.lq_value.specs.declared.table.Schema.{Schema}
 use Rattle.lq_value.specs.declared.ty.Ty.{Ty}
@@ -8,23 +9,24 @@ use Rattle.lq_value.specs.declared.value.Value.{Value}
 use Rattle.lq_machine.specs.Served.{item_data}
 use Rattle.lq_json.specs.Items.{Holds, Pushes}
 use Rattle.lq_json.specs.Shapes.{data_by, shape_of}
-use Rattle.lq_json.specs.Texts.{flat, front, tokens_of}
+use Rattle.lq_json.specs.Texts.{has_any, items_front, texts}
 use Rattle.lq_json.specs.declared.items.ItemsLine.{ItemsLine}
 use Rattle.lq_json.specs.declared.pushing.Writing.{Writing}
 use Rattle.lq_json.specs.declared.shape.Shape.{Shape}
 use Rattle.lq_json.proofs.ShapeLemmas.{shape_makes}
-
-flat_more : (ds : List Data) (d : Data) → flat ds ++ tokens_of d ≡ flat (ds ++ d ∷ [])
-flat_more [] d = sym (append-nil (tokens_of d))
-flat_more (e ∷ ds) d = append_assoc (tokens_of e) (flat ds) (tokens_of d) ∙ ap (λ ts. tokens_of e ++ ts) (flat_more ds d)
+use Rattle.lq_json.proofs.Written.{texts_more}
 
 -- one item more is held
 pub holds_more : (old new : ItemsLine) (d : Data) (ds : List Data) → Pushes old new d → Holds old ds → Holds new (ds ++ d ∷ [])
 holds_more old new d ds pushes holds = record {
-  tokens =
-      pushes.tokens ∙ ap (λ ts. ts ++ tokens_of d) holds.tokens ∙ append_assoc front (flat ds) (tokens_of d) ∙ ap (λ ts. front ++ ts) (flat_more ds d);
-  alone = pushes.before ∙ holds.alone;
-}
+  text =
+      pushes.text ∙ ap₂ (λ t b. t ++ (comma_if b ++ compact_text d)) holds.text holds.later ∙ append_assoc items_front (texts false ds) _
+      ∙ ap (λ t. items_front ++ t) (texts_more false ds d);
+  later = pushes.later ∙ sym (any_more ds);
+} where
+  any_more : (es : List Data) → has_any (es ++ d ∷ []) ≡ true
+  any_more [] = refl
+  any_more (e ∷ es) = refl
 
 -- and it is what the type makes of the value
 pub more_by_type : {R : Type 0} (cells_of : R → List Scalar) (schemas : List Schema) (t : Ty) (v : Value R) (shape : Shape) (line : ItemsLine) (ds : List Data)

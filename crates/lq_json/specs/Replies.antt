@@ -1,5 +1,5 @@
 -- Replies as data.
-use Rattle.std.specs.Prelude.{◌≡◌, ◌++◌, List, Ok}
+use Rattle.std.specs.Prelude.{◌≡◌, ◌++◌, ◌||◌, List, Ok}
 use Rattle.serde_json.specs.Data.{Data, object}
 use Rattle.lq_value.specs.declared.scalar.Scalar.{Scalar}
 use Rattle.lq_value.specs.declared.value.End.{End}
@@ -8,8 +8,8 @@ use Rattle.lq_machine.specs.States.{schemas_of}
 use Rattle.lq_machine.specs.Served.{assigned_data, defined_data, deleted_data, denied_data, error_data, fault_data, inserted_data, nested_fault, role_data, stream_data, stream_members, unless_fault, value_data}
 use Rattle.lq_language.specs.Stream.{Stream, select_each}
 use Rattle.lq_json.specs.Shapes.{data_by}
-use Rattle.lq_json.specs.Items.{bytes_before, tokens_in}
-use Rattle.lq_json.specs.Texts.{flat}
+use Rattle.lq_json.specs.Items.{has_items, text_in}
+use Rattle.lq_json.specs.Texts.{has_any, texts}
 use Rattle.lq_json.specs.declared.shape.Shape.{Shape}
 use Rattle.lq_json.specs.declared.items.ItemsLine.{ItemsLine}
 use Rattle.lq_json.specs.declared.reply.Reply.{Reply}
@@ -39,6 +39,6 @@ module _ {R : Type 0} (cells_of : R → List Scalar) where
 
   -- All items are written after the others that are served, and they end as these do.
   pub record ServesAll (shape : Shape) (items : List (Value R)) (end : End) (old new : ItemsLine) (ended : End) : Type 0 where
-    pub tokens : tokens_in new ≡ tokens_in old ++ flat (served_by shape (items, end)).0
-    pub before : bytes_before new ≡ bytes_before old
+    pub text : text_in new ≡ text_in old ++ texts (has_items old) (served_by shape (items, end)).0
+    pub later : has_items new ≡ (has_items old || has_any (served_by shape (items, end)).0)
     pub ending : ended ≡ (served_by shape (items, end)).1

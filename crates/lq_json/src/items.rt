@@ -1,18 +1,19 @@
 //! The line of a reply of items, written item by item into one buffer.
-ghost use Rattle.std.specs.Prelude.{◌≡◌, ◌∷◌, ◌++◌, [], drop, IfOk, List, OnOk};
-ghost use Rattle.json.specs.Token.{end_array, end_object};
+ghost use Rattle.std.specs.Prelude.{◌≡◌, ◌∷◌, ◌++◌, [], drop, true, IfOk, List, OnOk};
 ghost use Rattle.serde_json.specs.Data.{Data, boolean, null, number, object, string};
 ghost use Rattle.serde_json.specs.Find.{of_integer};
-ghost use Rattle.serde_json.specs.Written.{compact_text};
+ghost use Rattle.serde_json.specs.Written.{comma_if, compact_text};
 ghost use Rattle.lq_value.specs.declared.value.End.TheVariants as end;
 ghost use Rattle.lq_machine.specs.Served.{line_of, stream_members};
 ghost use Rattle.lq_json.specs.Shapes.{data_by};
-ghost use Rattle.lq_json.specs.Items.{Holds, Pushes, fault_front};
+ghost use Rattle.lq_json.specs.Items.{Holds, Pushes, fault_front, has_items, text_in};
 
 use crate::line::Line;
+use crate::scalar::{write_bool, write_int};
 use crate::shape::Shape;
+use crate::string::write_string;
+use crate::text::Text;
 use crate::write::write;
-use json::Writer;
 use lq_value::{End, Fault, RowRef, Value};
 use std::alloc::{AllocError, Global};
 
@@ -21,7 +22,8 @@ use std::alloc::{AllocError, Global};
 #[derive(Drop)]
 pub struct ItemsLine {
     alloc: Global,
-    out: Writer,
+    out: Text,
+    has_items: bool,
 }
 
 /// What a reply begins with that ends in this fault.
@@ -65,55 +67,61 @@ fn faulted(alloc: Global, fault: Fault, text: &[u8]) -> Result<Vec<u8>, AllocErr
     Ok(bytes)
 }
 
-/// Ends the items and the reply.
-fn close(out: &mut Writer) -> Result<(), AllocError>
-    ensures tokens { OnOk result (out.new.tokens
-        ≡ out.old.tokens ++ end_array ∷ (end_object ∷ [])) }
-    ensures before { out.new.before ≡ out.old.before }
-{
-    out.end_array()?;
-    out.end_object()
-}
-
 impl ItemsLine {
     /// The line with no item yet.
     pub fn new(alloc: Global) -> Result<ItemsLine, AllocError>
         ensures { IfOk result (λ items. Holds items []) }
     {
-        let mut out = Writer::new(Vec::new(alloc));
-        out.begin_object()?;
-        out.key("items")?;
-        out.begin_array()?;
-        Ok(ItemsLine { alloc, out })
+        let mut out = Text::new(alloc);
+        out.put(b"{\"items\":[")?;
+        Ok(ItemsLine {
+            alloc,
+            out,
+            has_items: false,
+        })
+    }
+
+    /// Puts a comma behind the items, where there are any, for the one to come.
+    fn begin_item(&mut self) -> Result<(), AllocError>
+        ensures text { OnOk result (text_in self.new
+            ≡ text_in self.old ++ comma_if (has_items self.old)) }
+        ensures later { has_items self.new ≡ true }
+    {
+        let later = self.has_items;
+        self.has_items = true;
+        self.out.put_comma(later)
     }
 
     /// Writes a null after the other items.
     pub fn push_null(&mut self) -> Result<(), AllocError>
         ensures { OnOk result (Pushes self.old self.new null) }
     {
-        self.out.null()
+        self.begin_item()?;
+        self.out.put(b"null")
     }
 
     /// Writes an int after the other items.
-    #[tactic(auto, using(crate::proofs::Tokens::integer_text))]
     pub fn push_int(&mut self, int: i32) -> Result<(), AllocError>
         ensures { OnOk result (Pushes self.old self.new (number (of_integer int))) }
     {
-        self.out.i64(int as i64)
+        self.begin_item()?;
+        write_int(int, &mut self.out)
     }
 
     /// Writes a truth value after the other items.
     pub fn push_bool(&mut self, truth: bool) -> Result<(), AllocError>
         ensures { OnOk result (Pushes self.old self.new (boolean truth)) }
     {
-        self.out.boolean(truth)
+        self.begin_item()?;
+        write_bool(truth, &mut self.out)
     }
 
     /// Writes a text after the other items.
     pub fn push_text(&mut self, text: &str) -> Result<(), AllocError>
         ensures { OnOk result (Pushes self.old self.new (string text.now)) }
     {
-        self.out.string(text)
+        self.begin_item()?;
+        write_string(text, &mut self.out)
     }
 
     /// Writes a value of this shape after the other items.
@@ -124,6 +132,7 @@ impl ItemsLine {
     ) -> Result<(), AllocError>
         ensures { OnOk result (Pushes self.old self.new (data_by R.shown shape.now value.now)) }
     {
+        self.begin_item()?;
         write(shape, value, &mut self.out)
     }
 
@@ -133,8 +142,8 @@ impl ItemsLine {
             → text.items ≡ compact_text (object (stream_members ds end.Done))) }
     {
         let ItemsLine { mut out, .. } = self;
-        close(&mut out)?;
-        Ok(out.into_inner())
+        out.put(b"]}")?;
+        Ok(out.into_bytes())
     }
 
     /// The whole line, of the items written and how they end.

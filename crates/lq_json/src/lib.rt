@@ -8,11 +8,16 @@ mod denial;
 mod fault;
 mod items;
 mod line;
+mod name;
 mod order;
 mod pushing;
 mod reply;
+mod row;
+mod scalar;
 mod shape;
 mod sole;
+mod string;
+mod text;
 mod write;
 
 pub use items::ItemsLine;

@@ -6,15 +6,14 @@ ghost use Rattle.lq_machine.specs.States.{schemas_of};
 ghost use Rattle.lq_machine.specs.Served.{line_of, stream_data, value_data};
 ghost use Rattle.lq_json.specs.Shapes.{data_by};
 ghost use Rattle.lq_json.specs.Replies.{ServesAll, reply_data, served_by, stream_reply};
-ghost use Rattle.lq_json.specs.Texts.{tokens_of};
 
 use crate::fault::{fault_name, nested_fault};
 use crate::items::ItemsLine;
 use crate::line::Line;
 use crate::shape::{Shape, shape_of};
 use crate::sole::{count_line, word_line};
+use crate::text::Text;
 use crate::{denial, write};
-use json::Writer;
 use lq_language::{HostName, Use};
 use lq_store::Store;
 use lq_value::{End, Fault, RowRef, Ty, Value};
@@ -140,25 +139,8 @@ fn items_line<R: RowRef>(
     shaped_items_line(alloc, &shape, items, end)
 }
 
-/// Writes a reply with a value of a shape.
-fn write_value<R: RowRef>(
-    shape: &Shape,
-    value: &Value<R>,
-    out: &mut Writer,
-) -> Result<(), AllocError>
-    ensures tokens { OnOk result (out.new.tokens
-        ≡ out.old.tokens
-        ++ tokens_of
-        (object (put (codes "value") (data_by R.shown shape.now value.now) no_members))) }
-    ensures before { out.new.before ≡ out.old.before }
-{
-    out.begin_object()?;
-    out.key("value")?;
-    write::write(shape, value, out)?;
-    out.end_object()
-}
-
 /// The text of a reply with a value of a shape.
+#[tactic(auto, using(crate::proofs::Written::value_text))]
 fn value_text<R: RowRef>(
     alloc: Global,
     shape: &Shape,
@@ -168,9 +150,11 @@ fn value_text<R: RowRef>(
         ≡ compact_text
         (object (put (codes "value") (data_by R.shown shape.now value.now) no_members))) }
 {
-    let mut out = Writer::new(Vec::new(alloc));
-    write_value(shape, value, &mut out)?;
-    Ok(out.into_inner())
+    let mut out = Text::new(alloc);
+    out.put(b"{\"value\":")?;
+    write::write(shape, value, &mut out)?;
+    out.put_byte(b'}')?;
+    Ok(out.into_bytes())
 }
 
 /// The line of a reply with a value of a shape.

@@ -5,7 +5,7 @@ use Rattle.serde_json.specs.Data.{Data, object}
 use Rattle.lq_value.specs.declared.value.End.{End}
 use Rattle.lq_machine.specs.Served.{line_of, stream_members}
 use Rattle.lq_json.specs.Items.{Holds, fault_front}
-use Rattle.lq_json.proofs.Tokens.{faulted_line}
+use Rattle.lq_json.proofs.Written.{faulted_line}
 use Rattle.lq_json.proofs.items.ItemsLine.finish.Goals as goal
 
 pub returns-in_ok-faulted-in-Fault : goal.returns-in_ok-faulted-in-Fault
