@@ -7,7 +7,9 @@ use Rattle.lq_value.specs.Keys.{key_value}
 use Rattle.lq_value.specs.Lookups.{with_key}
 use Rattle.lq_value.specs.SameAndOrder.{same_values}
 use Rattle.lq_value.specs.declared.key.Key.{Key}
+use Rattle.lq_value.specs.declared.scalar.Scalar.{Scalar}
 use Rattle.lq_value.specs.declared.value.Value.{Value}
+use Rattle.lq_value.specs.declared.value.Value.TheVariants as value
 use Rattle.lq_value.proofs.SamenessLaws.{tells_keys}
 use Rattle.lq_language.specs.Stream.{first_keys}
 use Rattle.lq_operators.specs.Firsts.{AddsFirst}
@@ -37,6 +39,13 @@ left_out keys k l = by (list_any (key_is k) keys) where
 module _ {R : Type 0} where
   pub one_value : (v w : Value R) → same_values v w ≡ true → v ≡ w
   one_value v w h = ((tells_keys R v w).0 h).1
+
+  -- what isn't a scalar is the same as none
+  pub other_scalar : (v : Value R) (s : Scalar) → ((t : Scalar) → v ≡ value.Scalar t → ⊥) → false ≡ same_values v (value.Scalar s)
+  other_scalar v s none = by (same_values v (value.Scalar s)) refl where
+    by : (b : Bool) → same_values v (value.Scalar s) ≡ b → false ≡ same_values v (value.Scalar s)
+    by true e = absurd (none s (one_value v (value.Scalar s) e))
+    by false e = sym e
 
   pub known_none : (keys : List Key) → AreKnown {R = R} keys []
   known_none keys v h = refl

@@ -2,7 +2,9 @@ pub mod AddedLemmas
 pub mod ArgumentLemmas
 pub mod GroupLemmas
 pub mod ItemLemmas
+pub mod KeyOrderLemmas
 pub mod KnownLemmas
+pub mod LeadingLemmas
 pub mod MatchLemmas
 pub mod MoveLemmas
 pub mod NumberLaws

@@ -2,6 +2,8 @@ pub mod Answers
 pub mod Arguments
 pub mod Firsts
 pub mod Groups
+pub mod KeyOrder
+pub mod Leading
 pub mod Matching
 pub mod Moves
 pub mod Numbers

@@ -5,9 +5,9 @@ ghost use Rattle.lq_language.specs.Stream.{first_keys};
 ghost use Rattle.lq_operators.specs.Places.{AreKnown};
 
 use crate::hints::Hints;
-use crate::keys::{is_first, is_other_same};
+use crate::keys::{is_first, is_other_same, is_other_scalar};
 use lq_lookup::Numbering;
-use lq_value::{List, RowRef, Value};
+use lq_value::{List, RowRef, Scalar, Value, copy_scalar};
 use std::alloc::{AllocError, Global};
 
 /// The distinct items of those that were added, each at its first appearance (.NET,
@@ -22,6 +22,7 @@ pub struct Distinct<R> {
 
 impl<R: RowRef> Distinct<R> {
     ghost use Rattle.std.specs.Prelude.{◌≡◌, [], IfOk, OnOk};
+    ghost use Rattle.lq_value.specs.declared.value.Value.TheVariants as value;
     ghost use Rattle.lq_operators.specs.Firsts.{AddsFirst, firsts_in};
 
     /// Of no items, with room for `room` of them.
@@ -49,6 +50,28 @@ impl<R: RowRef> Distinct<R> {
             return Ok(());
         }
         self.add_by_key(alloc, item)
+    }
+
+    /// The same of an item that is this scalar: it is copied only where a hint doesn't find it.
+    #[inline]
+    pub fn add_scalar(&mut self, alloc: Global, item: &Scalar) -> Result<(), AllocError>
+        ensures { OnOk result
+            (AddsFirst (firsts_in self.old) (firsts_in self.new) (value.Scalar item.now)) }
+    {
+        let hint = self.hints.scalar_place(item);
+        if is_other_scalar(item, self.firsts.as_slice(), hint) {
+            return Ok(());
+        }
+        self.add_copy(alloc, item)
+    }
+
+    // The same, by the key of a copy.
+    fn add_copy(&mut self, alloc: Global, item: &Scalar) -> Result<(), AllocError>
+        ensures { OnOk result
+            (AddsFirst (firsts_in self.old) (firsts_in self.new) (value.Scalar item.now)) }
+    {
+        let copy = copy_scalar(alloc, item)?;
+        self.add_by_key(alloc, Value::Scalar(copy))
     }
 
     // The same, by the item's key.

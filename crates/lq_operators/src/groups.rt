@@ -6,9 +6,9 @@ ghost use Rattle.lq_language.specs.Stream.{groups_of};
 ghost use Rattle.lq_operators.specs.Places.{AreKnown, pushed_at};
 
 use crate::hints::Hints;
-use crate::keys::{is_group_of, place_of};
+use crate::keys::{is_group_of, is_group_of_scalar, place_of};
 use lq_lookup::Numbering;
-use lq_value::{Held, List, RowRef, Value, same};
+use lq_value::{Held, List, RowRef, Scalar, Value, copy_scalar, same};
 use std::alloc::{AllocError, Global};
 
 /// Elements in groups by their keys, put there one after another (.NET, Enumerable.GroupBy). Contracts
@@ -26,6 +26,7 @@ impl<R: RowRef> Grouping<R> {
     ghost use Rattle.std.specs.Prelude.{◌≡◌, [], map, IfOk, OnOk};
     ghost use Rattle.lq_value.specs.SameAndOrder.{same_values};
     ghost use Rattle.lq_language.specs.ClauseMeaning.{as_group};
+    ghost use Rattle.lq_value.specs.declared.value.Value.TheVariants as value;
     ghost use Rattle.lq_language.specs.Stream.{groups_of};
     ghost use Rattle.lq_operators.specs.Groups.{AddsPair, groups_in};
 
@@ -54,6 +55,38 @@ impl<R: RowRef> Grouping<R> {
             return push_at(&mut self.groups, hint, element);
         }
         self.add_by_key(alloc, key, element)
+    }
+
+    /// The same, where the key is this scalar: it is copied only where a hint doesn't find its group.
+    #[inline]
+    pub fn add_by_scalar(
+        &mut self,
+        alloc: Global,
+        key: &Scalar,
+        element: Value<R>,
+    ) -> Result<(), AllocError>
+        ensures { OnOk result
+            (AddsPair (groups_in self.old) (groups_in self.new) (value.Scalar key.now) element) }
+    {
+        let hint = self.hints.scalar_place(key);
+        if is_group_of_scalar(key, self.groups.as_slice(), hint) {
+            return push_at(&mut self.groups, hint, element);
+        }
+        self.add_by_copy(alloc, key, element)
+    }
+
+    // The same, by the number of the key's copy.
+    fn add_by_copy(
+        &mut self,
+        alloc: Global,
+        key: &Scalar,
+        element: Value<R>,
+    ) -> Result<(), AllocError>
+        ensures { OnOk result
+            (AddsPair (groups_in self.old) (groups_in self.new) (value.Scalar key.now) element) }
+    {
+        let copy = copy_scalar(alloc, key)?;
+        self.add_by_key(alloc, Value::Scalar(copy), element)
     }
 
     // The same, by the key's number.
@@ -109,6 +142,7 @@ pub fn group_pairs<R: RowRef>(
 }
 
 // Puts an element after those of the group at a place.
+#[inline]
 fn push_at<K: Drop, V: Drop>(
     groups: &mut Vec<(K, List<V>)>,
     place: usize,

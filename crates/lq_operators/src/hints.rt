@@ -24,9 +24,15 @@ impl Hints {
     #[inline]
     pub(crate) fn place<R: RowRef>(&self, value: &Value<R>) -> usize {
         match value {
-            Value::Scalar(scalar) => self.marked(mark(scalar)),
+            Value::Scalar(scalar) => self.scalar_place(scalar),
             _ => usize::MAX,
         }
+    }
+
+    // Where a value that is this scalar is likely to stand.
+    #[inline]
+    pub(crate) fn scalar_place(&self, scalar: &Scalar) -> usize {
+        self.marked(mark(scalar))
     }
 
     #[inline]

@@ -5,6 +5,7 @@ ghost use Rattle.lq_value.specs.KeyTests.{key_is};
 ghost use Rattle.lq_value.specs.Keys.{key_value};
 ghost use Rattle.lq_value.specs.Lookups.{with_key};
 ghost use Rattle.lq_value.specs.SameAndOrder.{same_scalars, same_values};
+ghost use Rattle.lq_value.specs.declared.value.Value.TheVariants as value;
 ghost use Rattle.lq_language.specs.Enumerable.{is_among};
 ghost use Rattle.lq_operators.specs.Places.{AreKnown, FindsKeys, IsPlaceOf, passes_at, place_in};
 
@@ -80,20 +81,55 @@ pub(crate) fn is_other_same<R: RowRef>(value: &Value<R>, values: &[Value<R>], pl
     }
 }
 
-// Whether two values are the same: two scalars are compared at once.
+// The same of a value that is this scalar.
 #[inline]
-#[tactic(auto, using(lq_value::proofs::SamenessLaws::sameness))]
+pub(crate) fn is_other_scalar<R: RowRef>(scalar: &Scalar, values: &[Value<R>], place: usize) -> bool
+    ensures { result
+        ≡ passes_at (λ other. same_values other (value.Scalar scalar.now)) values.now place }
+{
+    match values.get(place) {
+        Some(other) => is_scalar(other, scalar),
+        None => false,
+    }
+}
+
+// Whether two values are the same: a scalar is compared at once.
+#[inline]
 fn are_same<R: RowRef>(left: &Value<R>, right: &Value<R>) -> bool
     ensures { result ≡ same_values left.now right.now }
 {
-    match (left, right) {
-        (Value::Scalar(left), Value::Scalar(right)) => are_same_scalars(left, right),
+    match right {
+        Value::Scalar(scalar) => is_scalar(left, scalar),
         _ => same(left, right),
     }
 }
 
-#[inline]
+// Whether a value is the same as this scalar.
+#[inline(always)]
+#[tactic(auto, using(lq_value::proofs::SamenessLaws::sameness, crate::proofs::KnownLemmas::other_scalar))]
+fn is_scalar<R: RowRef>(other: &Value<R>, scalar: &Scalar) -> bool
+    ensures { result ≡ same_values other.now (value.Scalar scalar.now) }
+{
+    match other {
+        Value::Scalar(other) => are_same_scalars(other, scalar),
+        _ => false,
+    }
+}
+
+// Whether two scalars are the same: two ints are compared at once.
+#[inline(always)]
 fn are_same_scalars(left: &Scalar, right: &Scalar) -> bool
+    ensures { result ≡ same_scalars left.now right.now }
+{
+    match (left, right) {
+        (Scalar::Int(left), Scalar::Int(right)) => left == right,
+        _ => are_same_contents(left, right),
+    }
+}
+
+// The same of any two, by a call, so that what compares two ints stays short.
+#[inline(never)]
+fn are_same_contents(left: &Scalar, right: &Scalar) -> bool
     ensures { result ≡ same_scalars left.now right.now }
 {
     match (left, right) {
@@ -189,6 +225,22 @@ pub(crate) fn is_group_of<R: RowRef>(
 {
     match groups.get(place) {
         Some(group) => are_same(&group.0, key),
+        None => false,
+    }
+}
+
+// The same of a key that is this scalar.
+#[inline]
+pub(crate) fn is_group_of_scalar<R: RowRef>(
+    key: &Scalar,
+    groups: &[(Value<R>, List<Value<R>>)],
+    place: usize,
+) -> bool
+    ensures { result
+        ≡ passes_at (λ group. same_values group.0 (value.Scalar key.now)) groups.now place }
+{
+    match groups.get(place) {
+        Some(group) => is_scalar(&group.0, key),
         None => false,
     }
 }

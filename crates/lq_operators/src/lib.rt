@@ -2,7 +2,7 @@
 //!
 //! `simple`, `given`, `Distinct`, `Matches`, `Grouping`, `group_pairs` and `sort_by_columns` give what a
 //! method, a join, a group or an arrangement means on the items and their ending, or its fault; `Tally`
-//! counts, sums and compares item by item.
+//! counts, sums and compares item by item, and `Leading` keeps the first items of an arrangement.
 #![tactic(auto)]
 
 mod arguments;
@@ -14,7 +14,9 @@ mod given_methods;
 mod groups;
 mod hints;
 mod items;
+mod key_order;
 mod keys;
+mod leading;
 mod matches;
 mod numbers;
 mod order;
@@ -28,6 +30,7 @@ pub use error::RunError;
 pub use firsts::Distinct;
 pub use given_methods::given;
 pub use groups::{Grouping, group_pairs};
+pub use leading::Leading;
 pub use matches::Matches;
 pub use numbers::{Extreme, Tally};
 pub use order::sort_by_columns;

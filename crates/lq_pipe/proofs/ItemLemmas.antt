@@ -1,5 +1,5 @@
 -- What comes of an item in a slot of its own, and of each item of what it leads to.
-use Rattle.std.proofs.Common.{◌≡◌, ◌∷◌, ◌++◌, List, [], Bor, Some, None, Result, Ok, Err, map, ap, ◌∙◌, sym, refl, subst, append_assoc, IfOk}
+use Rattle.std.proofs.Common.{◌≡◌, ◌∷◌, ◌++◌, List, [], Bor, Some, None, Result, Ok, map, ap, ◌∙◌, sym, refl, subst, append_assoc, IfOk}
 use Rattle.lq_value.specs.declared.value.End.{End}
 use Rattle.lq_value.specs.declared.value.End.TheVariants as end
 use Rattle.lq_value.specs.declared.value.Fault.{Fault}
@@ -7,8 +7,8 @@ use Rattle.lq_value.specs.declared.value.Value.{Value}
 use Rattle.lq_value.specs.declared.value.Value.TheVariants as value
 use Rattle.lq_language.specs.Worlds.{World}
 use Rattle.lq_language.specs.OperandMeaning.{sequence, stream_of}
-use Rattle.lq_language.specs.Stream.{Stream, each, select_each, on_value, select_by, whole}
-use Rattle.lq_tree.specs.FormMeaning.{Slots, form_meaning, matched, with_item, with_items}
+use Rattle.lq_language.specs.Stream.{Stream, each, select_each, select_by, whole}
+use Rattle.lq_tree.specs.FormMeaning.{Slots, form_meaning, with_item, with_items}
 use Rattle.lq_tree.specs.declared.tree.Form.{Form}
 use Rattle.lq_tree.specs.declared.tree.Joined.{Joined}
 use Rattle.lq_tree.specs.declared.tree.Form.TheVariants as form
@@ -43,13 +43,6 @@ module _ {R : Type 0} (world : World R) (S : Slots R) (x : Value R) (D : Slots R
   expansion_is inner result E answer slots h =
       let all = stream_of world (form_meaning world inner D) in
       expansion_of inner result all.0 all.0 all.1 E answer slots refl refl h
-
-  pub matched_is : (result : Form) (vs : List (Value R)) (E : Type 0) (answer : Result (Stream (Value R)) E) → D ≡ S ++ x ∷ []
-      → IfOk answer (λ s. s ≡ select_by (λ w. form_meaning world result (with_item world D w)) vs end.Done)
-      → IfOk answer (λ s. s ≡ select_each (λ w. form_meaning world result (with_items world S x w)) (vs, end.Done))
-  matched_is result vs E answer slots h =
-      subst (λ (t : Stream (Value R)). IfOk answer (λ s. s ≡ t))
-      (ap (λ (d : Slots R). select_by (λ w. form_meaning world result (with_item world d w)) vs end.Done) slots ∙ two_slots result vs end.Done) h
 
 module _ {R : Type 0} (world : World R) (slots : Slots R) where
   pub select_many_answer : (a inner result : Form) (s vs : Stream (Value R)) → s ≡ stream_of world (form_meaning world a slots)
@@ -114,20 +107,3 @@ module _ {R : Type 0} (world : World R) (slots : Slots R) where
   join_stops a j inner c pairs f v inner_is pairs_are stops h =
       join_is a j (stream_of world (form_meaning world a slots)) inner (pairs, c) refl inner_is pairs_are
       ∙ ap (λ k. Ok (sequence (joined_by j (pairs, k) (stream_of world (form_meaning world a slots))))) stops ∙ ap (λ w. Ok w) (sym h)
-
-  -- what comes of an outer item whose key is met
-  pub joined_met : (j : Joined Form) (qs : List (Value R × Value R)) (x k : Value R) (found found' : List (Value R)) (E : Type 0) (answer : Result (Stream (Value R)) E)
-      → Ok k ≡ form_meaning world j.outer_key (with_item world slots x) → found ≡ matched world j.grouped k qs → found' ≡ found
-      → IfOk answer (λ s. s ≡ select_each (λ w. form_meaning world j.result (with_items world slots x w)) (found', end.Done))
-      → IfOk answer (λ s. s ≡ item_join world slots j qs x)
-  joined_met j qs x k found found' E answer met found_is same h =
-      subst (λ (t : Stream (Value R)). IfOk answer (λ s. s ≡ t))
-      (ap (λ l. select_each (λ w. form_meaning world j.result (with_items world slots x w)) (l, end.Done)) (same ∙ found_is)
-      ∙ ap (λ (m : Result (Value R) Fault). on_value m (λ y. select_each (λ w. form_meaning world j.result (with_items world slots x w)) (matched world j.grouped y qs, end.Done))) met) h
-
-  -- and of one whose key is a fault
-  pub joined_unmet : (j : Joined Form) (qs : List (Value R × Value R)) (x : Value R) (f : Fault) (vs : List (Value R)) → vs ≡ []
-      → Err f ≡ form_meaning world j.outer_key (with_item world slots x) → ◌≡◌ {A = Stream (Value R)} (vs, end.Fault f) (item_join world slots j qs x)
-  joined_unmet j qs x f vs none unmet =
-      ap (λ l. (l, end.Fault f)) none
-      ∙ ap (λ (m : Result (Value R) Fault). on_value m (λ y. select_each (λ w. form_meaning world j.result (with_items world slots x w)) (matched world j.grouped y qs, end.Done))) unmet

@@ -1,12 +1,13 @@
 pub mod AnswerLemmas
 pub mod CountLaws
 pub mod DrainLemmas
-pub mod GroupLemmas
+pub mod GatherLemmas
 pub mod HandingLemmas
 pub mod ItemLemmas
+pub mod JoinLemmas
 pub mod KeyLemmas
 pub mod LogLemmas
 pub mod PullLaws
 pub mod RowLemmas
 pub mod Sizes
-pub mod StreamLemmas
+pub mod StepLemmas

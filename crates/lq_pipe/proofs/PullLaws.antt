@@ -21,7 +21,7 @@ use Rattle.lq_plan.specs.Pulling.{item_at, last, through_stage}
 use Rattle.lq_plan.specs.declared.pipes.Pipe.{Pipe}
 use Rattle.lq_plan.specs.declared.stages.Stage.TheVariants as stage
 use Rattle.lq_plan.proofs.PlanLaws.{planned_cell, rest_kept, row_here}
-use Rattle.lq_plan.proofs.PullLaws.{left_opened}
+use Rattle.lq_plan.proofs.PullLaws.{item_given, left_opened}
 use Rattle.lq_language.proofs.StreamLaws.{then_assoc}
 use Rattle.lq_pipe.specs.Steps.{GivesStep, Steps}
 
@@ -200,4 +200,4 @@ pub ruleset expands = (left_opened, comes_begins, comes_on, comes_stopped, comes
 
 pub ruleset selects = (left_opened, selects_begin, selects_on, selects_stopped, selects_ended, fewer)
 
-pub ruleset row_gives = (row_selected)
+pub ruleset row_gives = (row_selected, item_given)

@@ -1,24 +1,32 @@
 //! The running of what several sequences or keys take part in.
+ghost use Rattle.std.specs.Prelude.{◌≡◌, IfOk};
+ghost use Rattle.lq_value.specs.declared.value.End.TheVariants as end;
+ghost use Rattle.lq_language.specs.Stream.{one, then_ending};
+
 use crate::running::Running;
 use lq_grammar::SortKey;
 use lq_host::{Asks, Log};
-use lq_operators::{Grouping, Matches, RunError};
+use lq_operators::{Matches, RunError};
 use lq_plan::{Lambda, Pipe, Reads, Slots, Stage, TableRow, arrangements, sequences};
 use lq_tree::{Form, Joined};
 use lq_value::{End, Fault, List, Scalar, Value, copy_scalar};
 use std::alloc::AllocError;
 
 impl<'a, R: TableRow, S: Reads<R>, H: Asks> Running<'a, R, S, H> {
-    ghost use Rattle.std.specs.Prelude.{◌≡◌, IfOk, Ok, List, None, Some, true};
+    ghost use Rattle.std.specs.Prelude.{◌≡◌, IfOk, Ok, List, None, true, false};
     ghost use Rattle.lq_language.specs.Arrangement.{all_of};
+    ghost use Rattle.lq_language.specs.Stream.{select_by, then_ending};
+    ghost use Rattle.lq_value.specs.declared.value.End.TheVariants as end;
     ghost use Rattle.lq_operators.specs.Matching.{pairs_of};
     ghost use Rattle.lq_operators.specs.Answers.{IsAnswer};
+    ghost use Rattle.lq_tree.specs.FormMeaning.{matched};
     ghost use Rattle.lq_tree.specs.declared.tree.Form.TheVariants as form;
     ghost use Rattle.lq_plan.specs.Arrangements.{columns_of, key_at};
-    ghost use Rattle.lq_plan.specs.Meanings.{Answers, items_meant, meant};
+    ghost use Rattle.lq_plan.specs.Meanings.{Answers, items_meant, meant, value_of_item};
     ghost use Rattle.lq_plan.specs.Pipes.{all_items};
     ghost use Rattle.lq_plan.specs.Slots.{values_in};
-    ghost use Rattle.lq_pipe.specs.Items.{AreGrouped, item_expansion, item_join, key_and_element, keys_and_elements, stream_expansion, stream_join};
+    ghost use Rattle.lq_pipe.specs.Items.{item_expansion, item_join, keys_and_elements, stream_expansion, stream_join};
+    ghost use Rattle.lq_pipe.specs.Joins.{match_at};
     ghost use Rattle.lq_host.specs.declared.call.Call.{Call};
     ghost use Rattle.lq_tree.specs.Watches.{Watch, are_covered_keys, has_watched_rows, have_watched_rows, is_covered_join};
     ghost use Rattle.lq_plan.specs.Watching.{matches_pass, watches};
@@ -144,74 +152,6 @@ impl<'a, R: TableRow, S: Reads<R>, H: Asks> Running<'a, R, S, H> {
         }
     }
 
-    /// The items of a pipe in groups by their keys, as far as no fault is met, and how they end.
-    #[cycle(running)]
-    fn grouped(
-        &self,
-        key: &Lambda<'_>,
-        element: &Lambda<'_>,
-        pipe: &Pipe<'_>,
-        slots: &Slots<'_, R>,
-        log: &mut Log<H>,
-    ) -> Result<(Grouping<R>, End), AllocError>
-        requires planned { IsPlanned self.now slots.now pipe.now }
-        requires key { GivesCell self.now slots.now key.now }
-        requires element { GivesCell self.now slots.now element.now }
-        ensures meant { IfOk result (λ found. AreGrouped found.0 found.1
-            (keys_and_elements (world self.now) (values_in slots.now) key.now.body.now
-            (Some element.now.body)
-            (all_items (world self.now) (values_in slots.now) pipe.now))) }
-        ensures grows { (w : Watch R) (start : List Call) → covers self.now w pipe.now.source.now ≡ true
-            → covers_stage self.now w pipe.now.stage ≡ true
-            → covers self.now w key.now.body.now ≡ true
-            → covers self.now w element.now.body.now ≡ true
-            → watches w slots.now ≡ true
-            → Grown self.now w start log.old → Grown self.now w start log.new }
-    {
-        let alloc = self.sources.alloc;
-        let mut base = self.open(pipe.source, slots, log)?;
-        let mut grouping = Grouping::new(alloc, 0)?;
-        loop {
-            match self.next(pipe, &mut base, slots, log)? {
-                Ok(item) => match self.key_and_element(key, element, item, slots, log)? {
-                    Ok((key, element)) => grouping.add(alloc, key, element)?,
-                    Err(fault) => return Ok((grouping, End::Fault(fault))),
-                },
-                Err(end) => return Ok((grouping, end)),
-            }
-        }
-    }
-
-    /// The key of an item, and then its element.
-    #[cycle(running)]
-    fn key_and_element(
-        &self,
-        key: &Lambda<'_>,
-        element: &Lambda<'_>,
-        item: Value<R>,
-        slots: &Slots<'_, R>,
-        log: &mut Log<H>,
-    ) -> Result<Result<(Value<R>, Value<R>), Fault>, AllocError>
-        requires key { GivesCell self.now slots.now key.now }
-        requires element { GivesCell self.now slots.now element.now }
-        ensures meant { IfOk result (λ pair. pair ≡ key_and_element (world self.now)
-            (values_in slots.now) key.now.body.now (Some element.now.body) item) }
-        ensures grows { (w : Watch R) (start : List Call)
-            → covers self.now w key.now.body.now ≡ true
-            → covers self.now w element.now.body.now ≡ true
-            → watches w slots.now ≡ true
-            → has_watched_rows w item ≡ true
-            → Grown self.now w start log.old → Grown self.now w start log.new }
-    {
-        match self.value_by(key, &item, slots, log)? {
-            Ok(key) => match self.value_by(element, &item, slots, log)? {
-                Ok(element) => Ok(Ok((key, element))),
-                Err(fault) => Ok(Err(fault)),
-            },
-            Err(fault) => Ok(Err(fault)),
-        }
-    }
-
     /// The items of the inner source of a join with their keys, up to the first fault.
     #[cycle(running)]
     #[tactic(auto, using(crate::proofs::PullLaws::selects))]
@@ -274,7 +214,8 @@ impl<'a, R: TableRow, S: Reads<R>, H: Asks> Running<'a, R, S, H> {
         }
     }
 
-    /// What comes of an outer item and of each inner one that its key matches, or of all of them.
+    /// What comes of an outer item and of each inner one that its key matches, or of all of them, behind
+    /// the values that are there; and how that ends.
     #[cycle(running)]
     fn join_item(
         &self,
@@ -282,13 +223,15 @@ impl<'a, R: TableRow, S: Reads<R>, H: Asks> Running<'a, R, S, H> {
         outer_key: &Lambda<'_>,
         matches: &Matches<R>,
         item: &Value<R>,
+        values: &mut List<Value<R>>,
         slots: &Slots<'_, R>,
         log: &mut Log<H>,
-    ) -> Result<(List<Value<R>>, End), AllocError>
+    ) -> Result<End, AllocError>
         requires key { GivesCell self.now slots.now outer_key.now }
         requires outer { outer_key.now.body.now ≡ joined.now.outer_key }
-        ensures meant { IfOk result (λ s. s ≡ item_join (world self.now) (values_in slots.now) joined.now
-            (pairs_of matches.now) item.now) }
+        ensures meant { IfOk result (λ ending. (values.new, ending) ≡ then_ending values.old end.Done
+            (item_join (world self.now) (values_in slots.now) joined.now (pairs_of matches.now)
+            item.now)) }
         ensures grows { (w : Watch R) (start : List Call) → is_covered_join (world self.now) w joined.now ≡ true
             → matches_pass w (pairs_of matches.now) ≡ true
             → watches w slots.now ≡ true
@@ -297,17 +240,104 @@ impl<'a, R: TableRow, S: Reads<R>, H: Asks> Running<'a, R, S, H> {
     {
         match self.value_by(outer_key, item, slots, log)? {
             Ok(key) => {
-                let inner = sequences::match_items(
-                    self.sources.alloc,
-                    joined.grouped,
-                    &key,
-                    matches,
-                )?;
                 let deeper = (&*slots).with(&*item);
-                self.select_all(&joined.result, inner.as_slice(), &deeper, log)
+                if joined.grouped {
+                    return self.join_group(&joined.result, &key, matches, values, &deeper, log);
+                }
+                self.join_matches(&joined.result, &key, matches, values, &deeper, log)
             }
-            Err(fault) => Ok((List::new(self.sources.alloc), End::Fault(fault))),
+            Err(fault) => Ok(End::Fault(fault)),
         }
+    }
+
+    /// What a lambda gives of each inner item that a key matches, up to the first fault. The items are
+    /// read where they stand: no list is made of them.
+    #[cycle(running)]
+    fn join_matches(
+        &self,
+        body: &Form,
+        key: &Value<R>,
+        matches: &Matches<R>,
+        values: &mut List<Value<R>>,
+        slots: &Slots<'_, R>,
+        log: &mut Log<H>,
+    ) -> Result<End, AllocError>
+        ensures meant { IfOk result (λ ending. (values.new, ending) ≡ then_ending values.old end.Done
+            (select_by (value_of_item (world self.now) body.now slots.now)
+            (matched (world self.now) false key.now (pairs_of matches.now)) end.Done)) }
+        ensures grows { (w : Watch R) (start : List Call) → covers self.now w body.now ≡ true
+            → matches_pass w (pairs_of matches.now) ≡ true
+            → watches w slots.now ≡ true
+            → Grown self.now w start log.old → Grown self.now w start log.new }
+    {
+        let lambda = self.sources.lambda(body, slots);
+        let places = matches.places(self.sources.alloc, key)?;
+        for place in places {
+            let ending = self.join_place(&lambda, key, matches, *place, values, slots, log)?;
+            match ending {
+                End::Done => {}
+                End::Fault(fault) => return Ok(End::Fault(fault)),
+            }
+        }
+        Ok(End::Done)
+    }
+
+    /// What a lambda gives of the inner item at a place, where a key matches it.
+    #[cycle(running)]
+    #[inline(always)]
+    fn join_place(
+        &self,
+        lambda: &Lambda<'_>,
+        key: &Value<R>,
+        matches: &Matches<R>,
+        place: usize,
+        values: &mut List<Value<R>>,
+        slots: &Slots<'_, R>,
+        log: &mut Log<H>,
+    ) -> Result<End, AllocError>
+        requires { GivesCell self.now slots.now lambda.now }
+        ensures meant { IfOk result (λ ending. (values.new, ending) ≡ then_ending values.old end.Done
+            (select_by (value_of_item (world self.now) lambda.now.body.now slots.now)
+            (match_at matches.now key.now place) end.Done)) }
+        ensures grows { (w : Watch R) (start : List Call)
+            → covers self.now w lambda.now.body.now ≡ true
+            → have_watched_rows w (match_at matches.now key.now place) ≡ true
+            → watches w slots.now ≡ true
+            → Grown self.now w start log.old → Grown self.now w start log.new }
+    {
+        match matches.item(key, place) {
+            Some(inner) => {
+                let met = self.value_by(lambda, inner, slots, log)?;
+                push_met(values, met)
+            }
+            None => Ok(End::Done),
+        }
+    }
+
+    /// What a lambda gives of all inner items that a key matches, as one sequence.
+    #[cycle(running)]
+    #[inline(never)]
+    fn join_group(
+        &self,
+        body: &Form,
+        key: &Value<R>,
+        matches: &Matches<R>,
+        values: &mut List<Value<R>>,
+        slots: &Slots<'_, R>,
+        log: &mut Log<H>,
+    ) -> Result<End, AllocError>
+        ensures meant { IfOk result (λ ending. (values.new, ending) ≡ then_ending values.old end.Done
+            (select_by (value_of_item (world self.now) body.now slots.now)
+            (matched (world self.now) true key.now (pairs_of matches.now)) end.Done)) }
+        ensures grows { (w : Watch R) (start : List Call) → covers self.now w body.now ≡ true
+            → matches_pass w (pairs_of matches.now) ≡ true
+            → watches w slots.now ≡ true
+            → Grown self.now w start log.old → Grown self.now w start log.new }
+    {
+        let items = matches.find(self.sources.alloc, key)?;
+        let group = Value::Seq(items, End::Done);
+        let met = self.value_of_item(body, &group, slots, log)?;
+        push_met(values, met)
     }
 
     /// What comes of each outer item of a pipe, up to the first fault.
@@ -339,10 +369,15 @@ impl<'a, R: TableRow, S: Reads<R>, H: Asks> Running<'a, R, S, H> {
         loop {
             match self.next(pipe, &mut base, slots, log)? {
                 Ok(item) => {
-                    let (further, ending) = self.join_item(
-                        joined, &outer_key, matches, &item, slots, log,
+                    let ending = self.join_item(
+                        joined,
+                        &outer_key,
+                        matches,
+                        &item,
+                        &mut values,
+                        slots,
+                        log,
                     )?;
-                    values = sequences::append(values, further)?;
                     match ending {
                         End::Done => {}
                         End::Fault(fault) => return Ok((values, End::Fault(fault))),
@@ -454,5 +489,23 @@ impl<'a, R: TableRow, S: Reads<R>, H: Asks> Running<'a, R, S, H> {
             Some(cell) => Ok(copy_scalar(self.sources.alloc, cell)?),
             None => self.scalar(key.body, &(&*slots).with(&*item), log),
         }
+    }
+}
+
+/// Puts what was met of an item behind the values that are there: a value, or the fault that ends them.
+#[inline]
+fn push_met<R: TableRow>(
+    values: &mut List<Value<R>>,
+    met: Result<Value<R>, Fault>,
+) -> Result<End, AllocError>
+    ensures { IfOk result (λ ending. (values.new, ending)
+        ≡ then_ending values.old end.Done (one met)) }
+{
+    match met {
+        Ok(value) => {
+            values.push(value)?;
+            Ok(End::Done)
+        }
+        Err(fault) => Ok(End::Fault(fault)),
     }
 }

@@ -6,15 +6,18 @@
 //! up to its first fault. `next_item` gives the next item of a pipe to whoever keeps its base.
 #![tactic(auto)]
 
+mod adding;
 mod clauses;
 mod conditions;
 mod draining;
+mod gathering;
 mod methods;
 mod operations;
 mod pulling;
 mod pulls;
 mod rows;
 mod running;
+mod steps;
 mod tallies;
 mod trees;
 

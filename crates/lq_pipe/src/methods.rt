@@ -2,22 +2,21 @@
 use crate::running::Running;
 use lq_host::{Asks, Log};
 use lq_language::{Given, Simple};
-use lq_operators::{Distinct, RunError, Tally, given, simple};
+use lq_operators::{RunError, Tally, given, simple};
 use lq_plan::counts::{given_limit, simple_limit};
 use lq_plan::{Lambda, Pipe, Reads, Slots, Stage, TableRow, parts, scalars, sequences, stage_of};
 use lq_tree::Form;
-use lq_value::{End, Fault, List, Ty, Value, copy_scalar, same};
+use lq_value::{Fault, Ty, Value, copy_scalar, same};
 use std::alloc::AllocError;
 
 impl<'a, R: TableRow, S: Reads<R>, H: Asks> Running<'a, R, S, H> {
     ghost use Rattle.std.specs.Prelude.{◌≡◌, IfOk, Ok, List, true};
     ghost use Rattle.lq_value.specs.SameAndOrder.{same_values};
     ghost use Rattle.lq_value.specs.declared.ty.Ty.{Ty};
-    ghost use Rattle.lq_value.specs.declared.value.End.TheVariants as end;
     ghost use Rattle.lq_value.specs.declared.value.Value.{Value};
     ghost use Rattle.lq_value.specs.declared.value.Value.TheVariants as value;
     ghost use Rattle.lq_language.specs.OperandMeaning.{sequence};
-    ghost use Rattle.lq_language.specs.Enumerable.{all, contains, distinct};
+    ghost use Rattle.lq_language.specs.Enumerable.{all, contains};
     ghost use Rattle.lq_language.specs.Stream.{select_by};
     ghost use Rattle.lq_operators.specs.Answers.{IsAnswer};
     ghost use Rattle.lq_language.specs.Meaning.{as_truth, given_meaning, simple_meaning};
@@ -27,7 +26,7 @@ impl<'a, R: TableRow, S: Reads<R>, H: Asks> Running<'a, R, S, H> {
     ghost use Rattle.lq_plan.specs.Pulling.{stream_behind};
     ghost use Rattle.lq_plan.specs.Slots.{values_in};
     ghost use Rattle.lq_host.specs.declared.call.Call.{Call};
-    ghost use Rattle.lq_tree.specs.Watches.{Watch, has_watched_rows, have_watched_rows};
+    ghost use Rattle.lq_tree.specs.Watches.{Watch, has_watched_rows};
     ghost use Rattle.lq_plan.specs.Watching.{watches};
     ghost use Rattle.lq_pipe.specs.Runs.{GivesCell, IsPlanned, world, Grown, covers, covers_stage};
 
@@ -115,36 +114,8 @@ impl<'a, R: TableRow, S: Reads<R>, H: Asks> Running<'a, R, S, H> {
         }
     }
 
-    /// The distinct items of a pipe, each at its first appearance: one after another is looked for among those before it.
-    #[cycle(running)]
-    #[inline(never)]
-    fn distinct(
-        &self,
-        pipe: &Pipe<'_>,
-        slots: &Slots<'_, R>,
-        log: &mut Log<H>,
-    ) -> Result<Value<R>, RunError>
-        requires { IsPlanned self.now slots.now pipe.now }
-        ensures meant { IsAnswer (Ok (sequence (distinct same_values
-            (all_items (world self.now) (values_in slots.now) pipe.now).0
-            (all_items (world self.now) (values_in slots.now) pipe.now).1))) result }
-        ensures grows { (w : Watch R) (start : List Call) → covers self.now w pipe.now.source.now ≡ true
-            → covers_stage self.now w pipe.now.stage ≡ true
-            → watches w slots.now ≡ true
-            → Grown self.now w start log.old → Grown self.now w start log.new }
-    {
-        let alloc = self.sources.alloc;
-        let mut base = self.open(pipe.source, slots, log)?;
-        let mut distinct = Distinct::new(alloc, 0)?;
-        loop {
-            match self.next(pipe, &mut base, slots, log)? {
-                Ok(item) => distinct.add(alloc, item)?,
-                Err(end) => return Ok(Value::Seq(distinct.into_items(), end)),
-            }
-        }
-    }
-
-    /// A method with an argument, of which only the items that it reads are pulled.
+    /// A method with an argument, which is evaluated first. Only the items that the method reads are pulled: none where a
+    /// value that is looked for is a fault.
     #[cycle(running)]
     #[inline(never)]
     #[tactic(auto, using(lq_plan::proofs::FormLaws::form_given))]
@@ -165,35 +136,13 @@ impl<'a, R: TableRow, S: Reads<R>, H: Asks> Running<'a, R, S, H> {
     {
         let argument = sequences::value_or_fault(self.evaluate(argument, slots, log))?;
         let pipe = self.sources.pipe_of(source, slots)?;
-        self.given_items(method, argument, &pipe, slots, log)
-    }
-
-    /// The same on the items of a pipe, with an argument that was evaluated. Where a value that is looked
-    /// for is a fault, no item is pulled.
-    #[cycle(running)]
-    fn given_items(
-        &self,
-        method: Given,
-        argument: Result<Value<R>, Fault>,
-        pipe: &Pipe<'_>,
-        slots: &Slots<'_, R>,
-        log: &mut Log<H>,
-    ) -> Result<Value<R>, RunError>
-        requires { IsPlanned self.now slots.now pipe.now }
-        ensures meant { IsAnswer (given_meaning (world self.now) method argument
-            (all_items (world self.now) (values_in slots.now) pipe.now)) result }
-        ensures grows { (w : Watch R) (start : List Call) → covers self.now w pipe.now.source.now ≡ true
-            → covers_stage self.now w pipe.now.stage ≡ true
-            → watches w slots.now ≡ true
-            → Grown self.now w start log.old → Grown self.now w start log.new }
-    {
         match method {
             Given::Contains => match argument {
-                Ok(value) => self.has_item(&value, pipe, slots, log),
+                Ok(value) => self.has_item(&value, &pipe, slots, log),
                 Err(fault) => Err(RunError::Fault(fault)),
             },
             _ => {
-                let (items, end) = self.read(given_limit(method, &argument), pipe, slots, log)?;
+                let (items, end) = self.read(given_limit(method, &argument), &pipe, slots, log)?;
                 given(self.sources.alloc, method, argument, items, end)
             }
         }
@@ -351,31 +300,5 @@ impl<'a, R: TableRow, S: Reads<R>, H: Asks> Running<'a, R, S, H> {
             Some(cell) => Ok(Ok(Value::Scalar(copy_scalar(self.sources.alloc, cell)?))),
             None => self.value_of_item(lambda.body, item, slots, log),
         }
-    }
-
-    /// What a form gives of each item, up to the first fault.
-    #[cycle(running)]
-    pub(crate) fn select_all(
-        &self,
-        body: &Form,
-        items: &[Value<R>],
-        slots: &Slots<'_, R>,
-        log: &mut Log<H>,
-    ) -> Result<(List<Value<R>>, End), AllocError>
-        ensures meant { IfOk result (λ values. values
-            ≡ select_by (value_of_item (world self.now) body.now slots.now) items.now end.Done) }
-        ensures grows { (w : Watch R) (start : List Call) → covers self.now w body.now ≡ true
-            → watches w slots.now ≡ true
-            → have_watched_rows w items.now ≡ true
-            → Grown self.now w start log.old → Grown self.now w start log.new }
-    {
-        let mut values = List::new(self.sources.alloc);
-        for item in items {
-            match self.value_of_item(body, item, slots, log)? {
-                Ok(value) => values.push(value)?,
-                Err(fault) => return Ok((values, End::Fault(fault))),
-            }
-        }
-        Ok((values, End::Done))
     }
 }

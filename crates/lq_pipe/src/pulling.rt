@@ -1,5 +1,6 @@
 //! The pulling of items: one by one from a base, each through the conditions and lambdas above it.
 use crate::running::Running;
+use crate::steps::{outcome_of, step_of};
 use lq_host::{Asks, Log};
 use lq_plan::{
     Base, Outcome, Pipe, Pulled, Reads, Slots, Stage, TableRow, counts, has_no_stage, sequences,
@@ -17,7 +18,7 @@ impl<'a, R: TableRow, S: Reads<R>, H: Asks> Running<'a, R, S, H> {
     ghost use Rattle.lq_plan.specs.Meanings.{items_meant};
     ghost use Rattle.lq_plan.specs.Pipes.{all_items, items_left};
     ghost use Rattle.lq_plan.specs.PlannedRows.{row_verdict};
-    ghost use Rattle.lq_plan.specs.Pulling.{base_stream, item_at, items_at, last, outcome_stream, through_select, through_stage};
+    ghost use Rattle.lq_plan.specs.Pulling.{base_stream, item_at, items_at, last, outcome_stream, through_stage};
     ghost use Rattle.lq_plan.specs.Slots.{values_in};
     ghost use Rattle.lq_host.specs.declared.call.Call.{Call};
     ghost use Rattle.lq_tree.specs.Watches.{Watch, has_watched_rows, have_watched_rows};
@@ -158,38 +159,46 @@ impl<'a, R: TableRow, S: Reads<R>, H: Asks> Running<'a, R, S, H> {
                 Ok(false) => Ok(Outcome::Dropped),
                 Err(fault) => Ok(Outcome::Fault(fault)),
             },
-            Stage::Select(body) => self.pass_select(body, &item, slots, log),
+            Stage::Select(body) => Ok(outcome_of(self.value_of_item(body, &item, slots, log)?)),
         }
     }
 
-    /// What a lambda gives of an item.
+    /// What an item of the base becomes at the stage of a pipe: the cell that was planned, where the item goes
+    /// through no other stage.
     #[cycle(running)]
-    fn pass_select(
+    #[inline(always)]
+    pub(crate) fn pass_item(
         &self,
-        body: &Form,
-        item: &Value<R>,
+        pipe: &Pipe<'_>,
+        item: Value<R>,
         slots: &Slots<'_, R>,
         log: &mut Log<H>,
     ) -> Result<Outcome<R>, AllocError>
+        requires { IsPlanned self.now slots.now pipe.now }
         ensures meant { IfOk result (λ outcome. outcome_stream outcome
-            ≡ through_select (world self.now) (values_in slots.now) body.now
-            (item.now ∷ [], end.Done)) }
-        ensures grows { (w : Watch R) (start : List Call) → covers self.now w body.now ≡ true
+            ≡ through_stage (world self.now) (values_in slots.now) pipe.now.stage
+            (item_at (world self.now) (values_in slots.now) pipe.now.source.now item)) }
+        ensures grows { (w : Watch R) (start : List Call) → covers_stage self.now w pipe.now.stage ≡ true
+            → covers_above self.now w pipe.now.source.now ≡ true
             → watches w slots.now ≡ true
-            → has_watched_rows w item.now ≡ true
+            → has_watched_rows w item ≡ true
             → Grown self.now w start log.old → Grown self.now w start log.new }
     {
-        match self.value_of_item(body, item, slots, log)? {
-            Ok(value) => Ok(Outcome::Item(value)),
-            Err(fault) => Ok(Outcome::Fault(fault)),
+        if has_no_stage(pipe.source) {
+            if let Some(cell) = pipe.plan.item_cell(&item) {
+                let copy = copy_scalar(self.sources.alloc, cell)?;
+                return Ok(Outcome::Item(Value::Scalar(copy)));
+            }
         }
+        self.pass_through(&pipe.stage, pipe.source, item, slots, log)
     }
 
     /// What comes of a row that passes the conditions above its table, at the stage of a pipe: a lambda
-    /// gives the cell that was planned, if there is one.
+    /// gives the row itself, or the cell that was planned, if there is one.
     #[cycle(running)]
+    #[inline(always)]
     #[tactic(auto, using(crate::proofs::PullLaws::row_gives))]
-    fn pass_row(
+    pub(crate) fn pass_row(
         &self,
         pipe: &Pipe<'_>,
         row: R,
@@ -208,34 +217,15 @@ impl<'a, R: TableRow, S: Reads<R>, H: Asks> Running<'a, R, S, H> {
         match pipe.stage {
             Stage::Plain => Ok(Ok(Value::Row(row))),
             Stage::Where(_) => Ok(Ok(Value::Row(row))),
-            Stage::Select(body) => match pipe.plan.cell(&row) {
-                Some(cell) => Ok(Ok(Value::Scalar(copy_scalar(self.sources.alloc, cell)?))),
-                None => self.give(body, &Value::Row(row), slots, log),
-            },
-        }
-    }
-
-    /// What a lambda gives of an item, as the next item or how they end.
-    #[cycle(running)]
-    #[inline(never)]
-    fn give(
-        &self,
-        body: &Form,
-        item: &Value<R>,
-        slots: &Slots<'_, R>,
-        log: &mut Log<H>,
-    ) -> Result<Result<Value<R>, End>, AllocError>
-        ensures meant { IfOk result (λ step. GivesStep
-            (through_select (world self.now) (values_in slots.now) body.now
-            (item.now ∷ [], end.Done)) step) }
-        ensures grows { (w : Watch R) (start : List Call) → covers self.now w body.now ≡ true
-            → watches w slots.now ≡ true
-            → has_watched_rows w item.now ≡ true
-            → Grown self.now w start log.old → Grown self.now w start log.new }
-    {
-        match self.value_of_item(body, item, slots, log)? {
-            Ok(value) => Ok(Ok(value)),
-            Err(fault) => Ok(Err(End::Fault(fault))),
+            Stage::Select(body) => {
+                if pipe.plan.gives_row() {
+                    return Ok(Ok(Value::Row(row)));
+                }
+                match pipe.plan.cell(&row) {
+                    Some(cell) => Ok(Ok(Value::Scalar(copy_scalar(self.sources.alloc, cell)?))),
+                    None => Ok(step_of(self.value_of_item(body, &Value::Row(row), slots, log)?)),
+                }
+            }
         }
     }
 
@@ -267,7 +257,7 @@ impl<'a, R: TableRow, S: Reads<R>, H: Asks> Running<'a, R, S, H> {
             match base.pull(&pipe.plan) {
                 Ok(Pulled::Row(row)) => return self.pass_row(pipe, row, slots, log),
                 Ok(Pulled::Item(item)) => {
-                    match self.pass_through(&pipe.stage, pipe.source, item, slots, log)? {
+                    match self.pass_item(pipe, item, slots, log)? {
                         Outcome::Item(item) => return Ok(Ok(item)),
                         Outcome::Dropped => {}
                         Outcome::Fault(fault) => return Ok(Err(End::Fault(fault))),

@@ -5,9 +5,10 @@ ghost use Rattle.lq_operators.specs.Answers.{IsAnswer};
 ghost use Rattle.lq_operators.specs.Tallies.{tally_result};
 
 use crate::running::Running;
+use crate::steps::{with_given, with_outcome};
 use lq_host::{Asks, Log};
 use lq_operators::{RunError, Tally};
-use lq_plan::{Lambda, Outcome, Pipe, Pulled, Reads, Slots, Stage, TableRow, items_ref};
+use lq_plan::{Lambda, Pipe, Pulled, Reads, Slots, Stage, TableRow, items_ref};
 use lq_tree::Form;
 use lq_value::{End, Fault, Ty, Value};
 use std::alloc::AllocError;
@@ -150,7 +151,7 @@ impl<'a, R: TableRow, S: Reads<R>, H: Asks> Running<'a, R, S, H> {
     {
         match lambda.cell(item) {
             Some(cell) => Ok(tally.with_scalar(cell)),
-            None => self.tally_select(tally, lambda.body, item, slots, log),
+            None => Ok(with_given(tally, self.value_of_item(lambda.body, item, slots, log)?)),
         }
     }
 
@@ -180,32 +181,10 @@ impl<'a, R: TableRow, S: Reads<R>, H: Asks> Running<'a, R, S, H> {
                 Ok(false) => Ok(Ok(tally)),
                 Err(fault) => Ok(Err(fault)),
             },
-            Stage::Select(body) => self.tally_select(tally, body, item, slots, log),
-        }
-    }
-
-    /// The tally with what a lambda gives of one item more, or the fault that is met there.
-    #[cycle(running)]
-    fn tally_select(
-        &self,
-        tally: Tally,
-        body: &Form,
-        item: &Value<R>,
-        slots: &Slots<'_, R>,
-        log: &mut Log<H>,
-    ) -> Result<Result<Tally, Fault>, AllocError>
-        ensures meant { IfOk result (λ next. (t : Ty) (rest : Stream (Value R))
-            → tallied t tally (then_stream
-            (through_select (world self.now) (values_in slots.now) body.now (item.now ∷ [], end.Done)) rest)
-            ≡ goes_on t next rest) }
-        ensures grows { (w : Watch R) (start : List Call) → covers self.now w body.now ≡ true
-            → watches w slots.now ≡ true
-            → has_watched_rows w item.now ≡ true
-            → Grown self.now w start log.old → Grown self.now w start log.new }
-    {
-        match self.value_of_item(body, item, slots, log)? {
-            Ok(value) => Ok(tally.with(&value)),
-            Err(fault) => Ok(Err(fault)),
+            Stage::Select(body) => {
+                let given = self.value_of_item(body, item, slots, log)?;
+                Ok(with_given(tally, given))
+            }
         }
     }
 
@@ -237,38 +216,11 @@ impl<'a, R: TableRow, S: Reads<R>, H: Asks> Running<'a, R, S, H> {
             Stage::Where(_) => Ok(tally.with_number(None)),
             Stage::Select(body) => match pipe.plan.cell(row) {
                 Some(cell) => Ok(tally.with_scalar(cell)),
-                None => self.tally_select(tally, body, &Value::Row(row.again()), slots, log),
+                None => {
+                    let item = Value::Row(row.again());
+                    Ok(with_given(tally, self.value_of_item(body, &item, slots, log)?))
+                }
             },
-        }
-    }
-
-    /// The tally with what comes of an item that was pulled, at a source and the stage after it.
-    #[cycle(running)]
-    #[inline(never)]
-    fn tally_through(
-        &self,
-        tally: Tally,
-        stage: &Stage<'_>,
-        source: &Form,
-        item: Value<R>,
-        slots: &Slots<'_, R>,
-        log: &mut Log<H>,
-    ) -> Result<Result<Tally, Fault>, AllocError>
-        ensures meant { IfOk result (λ next. (t : Ty) (rest : Stream (Value R))
-            → tallied t tally (then_stream
-            (through_stage (world self.now) (values_in slots.now) stage.now
-            (item_at (world self.now) (values_in slots.now) source.now item)) rest)
-            ≡ goes_on t next rest) }
-        ensures grows { (w : Watch R) (start : List Call) → covers_stage self.now w stage.now ≡ true
-            → covers_above self.now w source.now ≡ true
-            → watches w slots.now ≡ true
-            → has_watched_rows w item ≡ true
-            → Grown self.now w start log.old → Grown self.now w start log.new }
-    {
-        match self.pass_through(stage, source, item, slots, log)? {
-            Outcome::Item(item) => Ok(tally.with(&item)),
-            Outcome::Dropped => Ok(Ok(tally)),
-            Outcome::Fault(fault) => Ok(Err(fault)),
         }
     }
 
@@ -298,7 +250,8 @@ impl<'a, R: TableRow, S: Reads<R>, H: Asks> Running<'a, R, S, H> {
         match pulled {
             Pulled::Row(row) => self.tally_row(tally, pipe, &row, slots, log),
             Pulled::Item(item) => {
-                self.tally_through(tally, &pipe.stage, pipe.source, item, slots, log)
+                let outcome = self.pass_through(&pipe.stage, pipe.source, item, slots, log)?;
+                Ok(with_outcome(tally, outcome))
             }
         }
     }

@@ -3,7 +3,9 @@ pub mod ArrangementLemmas
 pub mod BaseLemmas
 pub mod CellLemmas
 pub mod FindingLemmas
+pub mod FirstLemmas
 pub mod FormLaws
+pub mod LeadingLemmas
 pub mod PartLemmas
 pub mod PassingLemmas
 pub mod PlanLaws

@@ -14,7 +14,7 @@ use Rattle.lq_condition.proofs.ConditionLaws.{verdict_constant, verdict_silent}
 use Rattle.lq_tree.specs.FormMeaning.{Slots, form_meaning, with_item}
 use Rattle.lq_tree.specs.declared.tree.Form.{Form}
 use Rattle.lq_tree.specs.declared.tree.Form.TheVariants as form
-use Rattle.lq_plan.specs.Prepared.{Decides, DecidesPassing, DecidesStage, IsPlanned, SelectsCell}
+use Rattle.lq_plan.specs.Prepared.{Decides, DecidesPassing, DecidesStage, IsPlanned, SelectsCell, SelectsItem}
 use Rattle.lq_plan.specs.Pulling.{item_at, item_if, last_if, through_select, through_stage, through_where}
 use Rattle.lq_plan.specs.Meanings.{truth_in}
 use Rattle.lq_plan.specs.declared.plans.Plan.{Plan}
@@ -111,8 +111,9 @@ module _ {R : Type 0} (table_of : R → ℕ) (shown : R → List Scalar) (slots 
   -- ---- plans
 
   pub planned : (st : Stage) (source : Form) (p : Plan) → DecidesStage table_of shown world slots st source p.table p.condition
-      → IfSome p.place (λ place. SelectsCell table_of shown world slots st p.table place) → IsPlanned table_of shown world slots st source p
-  planned st source p conditions cells = record { conditions = conditions; cells = cells }
+      → IfSome p.place (λ place. SelectsCell table_of shown world slots st p.table place)
+      → (p.gives_row ≡ true → SelectsItem world slots st) → IsPlanned table_of shown world slots st source p
+  planned st source p conditions cells item = record { conditions = conditions; cells = cells; item = item }
 
 pub ruleset plans = (planned, stage_silent)
 

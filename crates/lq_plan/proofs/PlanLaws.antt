@@ -1,5 +1,6 @@
 -- What a plan says of rows is what comes of them.
-use Rattle.std.proofs.Common.{◌≡◌, ◌==◌, ◌∷◌, ◌++◌, if◌then◌else◌, List, [], ℕ, Bool, true, false, Option, Some, None, Ok, IfSome, Bor, ap, ◌∙◌, refl, subst, filter, map, reverse, slice_get}
+use Rattle.std.proofs.Common.{◌≡◌, ◌==◌, ◌∷◌, ◌++◌, if◌then◌else◌, List, [], ℕ, Bool, true, false, Option, Some, None, Ok, IfSome, Bor, ap, ◌∙◌, sym, refl, subst, filter, map, reverse, slice_get}
+use Rattle.std.specs.Option.{option_copied}
 use Rattle.std.specs.Prelude.{option_and_then}
 use Rattle.std.proofs.lemmas.Bool.{eqb-true}
 use Rattle.std.proofs.lemmas.Option.{none-some}
@@ -15,7 +16,7 @@ use Rattle.lq_tree.specs.declared.tree.Form.{Form}
 use Rattle.lq_plan.specs.declared.bases.Base.{Base}
 use Rattle.lq_plan.specs.Meanings.{truth_in}
 use Rattle.lq_plan.specs.PlannedRows.{is_kept_by, kept_stream, row_cell, row_verdict}
-use Rattle.lq_plan.specs.Prepared.{Decides, IsCell, IsPlanned}
+use Rattle.lq_plan.specs.Prepared.{Decides, IsCell, IsPlanned, SelectsCell, SelectsScalar}
 use Rattle.lq_plan.specs.Pulling.{item_at, last_if, rest_behind, through_stage}
 use Rattle.lq_plan.specs.declared.plans.Plan.{Plan}
 use Rattle.lq_plan.specs.declared.stages.Stage.{Stage}
@@ -90,3 +91,26 @@ module _ {R : Type 0} (table_of : R → ℕ) (shown : R → List Scalar) where
     pub planned_cell : (body : Bor Form) (source : Form) (plan : Plan) (r : R) (s : Scalar) → IsPlanned table_of shown world slots (stage.Select body) source plan → table_of r ≡ plan.table
         → row_cell table_of shown plan r ≡ Some s → form_meaning world body.now (with_item world slots (value.Row r)) ≡ Ok (value.Scalar s)
     planned_cell body source plan r s planned here is = cell_by plan.place plan.table body.now r s planned.cells here is
+
+    -- and so it is where the stage is any that gives a cell of a row
+    scalar_by : (st : Stage) (p table : ℕ) (r : R) → SelectsCell table_of shown world slots st table p → table_of r ≡ table
+        → IfSome (slice_get (shown r) p) (λ s. SelectsScalar world slots st (value.Row r) s)
+    scalar_by stage.Plain p table r cell here = absurd cell
+    scalar_by (stage.Where f) p table r cell here = absurd cell
+    scalar_by (stage.Select f) p table r cell here = cell.at r here
+
+    item_by : (st : Stage) (place : Option ℕ) (table : ℕ) (r : R) → IfSome place (λ p. SelectsCell table_of shown world slots st table p) → table_of r ≡ table
+        → IfSome (option_and_then (slice_get (shown r)) place) (λ s. SelectsScalar world slots st (value.Row r) s)
+    item_by st None table r cell here = tt
+    item_by st (Some p) table r cell here = scalar_by st p table r cell here
+
+    found_item : (st : Stage) (v : Value R) (found : Option (Bor Scalar)) → IfSome (option_copied found) (λ s. SelectsScalar world slots st v s)
+        → IfSome found (λ s. SelectsScalar world slots st v s.now)
+    found_item st v None is = tt
+    found_item st v (Some s) is = is
+
+    pub item_planned : (st : Stage) (source : Form) (plan : Plan) (r : R) (found : Option (Bor Scalar)) → IsPlanned table_of shown world slots st source plan → table_of r ≡ plan.table
+        → option_copied found ≡ row_cell table_of shown plan r → IfSome found (λ s. SelectsScalar world slots st (value.Row r) s.now)
+    item_planned st source plan r found planned here is =
+        found_item st (value.Row r) found
+        (subst (λ o. IfSome o (λ s. SelectsScalar world slots st (value.Row r) s)) (sym is) (item_by st plan.place plan.table r planned.cells here))

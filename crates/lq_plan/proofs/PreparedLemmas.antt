@@ -21,7 +21,7 @@ use Rattle.lq_condition.proofs.ConditionLaws.{verdict_constant, verdict_silent}
 use Rattle.lq_tree.specs.FormMeaning.{Slots, cell_in, form_meaning, if_there, name_of_column, with_item}
 use Rattle.lq_tree.specs.declared.tree.Form.{Form}
 use Rattle.lq_tree.specs.declared.tree.Form.TheVariants as form
-use Rattle.lq_plan.specs.Prepared.{Decides, IsCell, IsConstant}
+use Rattle.lq_plan.specs.Prepared.{Decides, IsCell, IsConstant, IsItem}
 use Rattle.lq_plan.specs.Meanings.{scalar_in, truth_in}
 use Rattle.lq_plan.specs.Worlds.{HaveDistinctColumns, schemas_in, world_of}
 use Rattle.lq_plan.specs.declared.tables.TableRows.{TableRows}
@@ -81,6 +81,13 @@ module _ {R : Type 0} (table_of : R → ℕ) (shown : R → List Scalar) (slots 
       (own_cell left predicates tables n table c name distinct next (named ∙ ap (λ t. name_of_column (schemas_in tables) t c) same))
 
   module _ (world : World R) where
+    pub next_item : (f : Form) (n : ℕ) → f ≡ form.Slot n → n ≡ length slots → IsItem world slots f
+    next_item f n is next = record {
+      at = λ v.
+          ap (λ (g : Form). form_meaning world g (with_item world slots v)) is ∙ form_slot world n (with_item world slots v)
+          ∙ ap (if_there world) (found_next slots v n next);
+    }
+
     pub constant_literal : (s : Scalar) → IsConstant table_of shown world slots (form.Literal s) s
     constant_literal s = record { at = λ v. form_literal world s (with_item world slots v) }
 

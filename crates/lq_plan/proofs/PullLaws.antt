@@ -1,5 +1,6 @@
 -- Items that are pulled one by one: what comes of them at each form, and what an opened base comes to.
-use Rattle.std.proofs.Common.{◌≡◌, ◌∷◌, ◌++◌, List, [], ℕ, Option, Some, None, Ok, ap, ◌∙◌, sym, refl, map, slice_get, true, true≢false}
+use Rattle.std.proofs.Common.{◌≡◌, ◌∷◌, ◌++◌, List, [], ℕ, Option, Some, None, Result, Ok, ap, ◌∙◌, sym, refl, map, slice_get, true, true≢false}
+use Rattle.lq_value.specs.declared.scalar.Scalar.{Scalar}
 use Rattle.lq_value.specs.declared.value.End.{End}
 use Rattle.lq_value.specs.declared.value.End.TheVariants as end
 use Rattle.lq_value.specs.declared.value.Fault.{Fault}
@@ -15,8 +16,10 @@ use Rattle.lq_tree.specs.declared.tree.Form.TheOpen.{Form-F}
 use Rattle.lq_tree.specs.declared.tree.Form.TheVariants as form
 use Rattle.lq_tree.specs.declared.tree.Form.TheViews.{roll-out-Form}
 use Rattle.lq_plan.specs.declared.bases.Base.{Base}
-use Rattle.lq_plan.specs.Pulling.{base_stream, end_of, item_at, item_step, items_at, stream_behind, rest_behind, rows_or_none, through_select, through_stage, through_where}
+use Rattle.lq_plan.specs.Prepared.{IsPlanned, SelectsItem, SelectsScalar}
+use Rattle.lq_plan.specs.Pulling.{base_stream, end_of, item_at, item_step, items_at, last, stream_behind, rest_behind, rows_or_none, through_select, through_stage, through_where}
 use Rattle.lq_plan.specs.Stages.{IsStageOver, has_no_stage, has_no_stage_step, is_base, is_base_step}
+use Rattle.lq_plan.specs.declared.plans.Plan.{Plan}
 use Rattle.lq_plan.specs.declared.stages.Stage.{Stage}
 use Rattle.lq_plan.specs.declared.stages.Stage.TheVariants as stage
 use Rattle.lq_plan.proofs.FormLaws.{form_select, form_sequence, form_table, form_where}
@@ -184,6 +187,48 @@ module _ {R : Type 0} (world : World R) (slots : Slots R) where
   pub plain_items : (st : Stage) (a a' : Form) → st ≡ stage.Plain → a ≡ a' → stream_behind world slots st a ≡ stream_of world (form_meaning world a' slots)
   plain_items st a a' plain is =
       ap (λ s. stream_behind world slots s a) plain ∙ ap (λ f. stream_of world (form_meaning world f slots)) is
+
+module _ {R : Type 0} (world : World R) (slots : Slots R) where
+  -- ---- what a lambda gives of one item
+
+  gives : (body : Form) (v w : Value R) → form_meaning world body (with_item world slots v) ≡ Ok w
+      → ◌≡◌ {A = Stream (Value R)} (through_select world slots body (v ∷ [], end.Done)) (w ∷ [], end.Done)
+  gives body v w is = ap (λ (m : Result (Value R) Fault). then_stream (one m) ([], end.Done)) is
+
+  -- the scalar that the stage gives of an item is what comes of it there
+  pub cell_given : (st : Stage) (v : Value R) (s : Scalar) → SelectsScalar world slots st v s
+      → ◌≡◌ {A = Stream (Value R)} (through_stage world slots st (v ∷ [], end.Done)) (value.Scalar s ∷ [], end.Done)
+  cell_given stage.Plain v s is = absurd is
+  cell_given (stage.Where f) v s is = absurd is
+  cell_given (stage.Select f) v s is = gives f.now v (value.Scalar s) is
+
+  pub cell_last : (st : Stage) (v : Value R) (s : Scalar) → SelectsScalar world slots st v s
+      → ◌≡◌ {A = Stream (Value R)} (last world slots st v) (value.Scalar s ∷ [], end.Done)
+  cell_last stage.Plain v s is = absurd is
+  cell_last (stage.Where f) v s is = absurd is
+  cell_last (stage.Select f) v s is = gives f.now v (value.Scalar s) is
+
+  -- and where it gives the item itself, that comes
+  pub comes_itself : (st : Stage) (v : Value R) → SelectsItem world slots st
+      → ◌≡◌ {A = Stream (Value R)} (through_stage world slots st (v ∷ [], end.Done)) (v ∷ [], end.Done)
+  comes_itself stage.Plain v is = absurd is
+  comes_itself (stage.Where f) v is = absurd is
+  comes_itself (stage.Select f) v is = gives f.now v v (is.at v)
+
+  last_itself : (st : Stage) (v : Value R) → SelectsItem world slots st → ◌≡◌ {A = Stream (Value R)} (last world slots st v) (v ∷ [], end.Done)
+  last_itself stage.Plain v is = absurd is
+  last_itself (stage.Where f) v is = absurd is
+  last_itself (stage.Select f) v is = gives f.now v v (is.at v)
+
+module _ {R : Type 0} (table_of : R → ℕ) (shown : R → List Scalar) (world : World R) (slots : Slots R) (st : Stage) (source : Form) (plan : Plan) where
+  -- where a plan says that the stage gives each item itself, an item that passes comes as it is, and so does each that comes to the stage
+  pub item_given : (v : Value R) → IsPlanned table_of shown world slots st source plan → plan.gives_row ≡ true
+      → ◌≡◌ {A = Stream (Value R)} (last world slots st v) (v ∷ [], end.Done)
+  item_given v planned is = last_itself world slots st v (planned.item is)
+
+  pub item_comes : (v : Value R) → IsPlanned table_of shown world slots st source plan → plan.gives_row ≡ true
+      → ◌≡◌ {A = Stream (Value R)} (through_stage world slots st (v ∷ [], end.Done)) (v ∷ [], end.Done)
+  item_comes v planned is = comes_itself world slots st v (planned.item is)
 
 pub ruleset passes = (passes_base, passes_sequence, passes_stage)
 

@@ -4,6 +4,7 @@ pub mod Counts
 pub mod Gathering
 pub mod Groups
 pub mod Handing
+pub mod Leading
 pub mod Lists
 pub mod Meanings
 pub mod Parts

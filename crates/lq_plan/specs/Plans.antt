@@ -32,7 +32,11 @@ module _ {R S H : Type 0} {t : Rows.Ghosts R} {r : Cells.Ghosts R} {s : Readers.
     abbrev pub IsCell : ℕ → Form → ℕ → Type 0
     IsCell = prepared.IsCell t.table_of r.shown world (values_in slots)
 
-    -- where a lambda is known to give a cell of rows, it gives that cell
+    -- whatever stands in the next slot, a form is that itself
+    abbrev pub IsItem : Form → Type 0
+    IsItem = prepared.IsItem world (values_in slots)
+
+    -- where a lambda is known to give a cell of rows, it gives that cell, and where it is known to give the item itself, it gives that
     abbrev pub GivesCell : Lambda → Type 0
     GivesCell = prepared.GivesCell t.table_of r.shown world (values_in slots)
 
@@ -56,7 +60,11 @@ module _ {R S H : Type 0} {t : Rows.Ghosts R} {r : Cells.Ghosts R} {s : Readers.
     abbrev pub SelectsCell : Stage → ℕ → ℕ → Type 0
     SelectsCell = prepared.SelectsCell t.table_of r.shown world (values_in slots)
 
-    -- what a plan says of rows is so: whether they pass, and which cell the stage gives of them
+    -- a stage is a lambda that gives the item itself
+    abbrev pub SelectsItem : Stage → Type 0
+    SelectsItem = prepared.SelectsItem world (values_in slots)
+
+    -- what a plan says of rows is so: whether they pass, and which cell the stage gives of them, or that it gives the row itself
     abbrev pub IsPlan : Stage → Form → Plan → Type 0
     IsPlan = prepared.IsPlanned t.table_of r.shown world (values_in slots)
 

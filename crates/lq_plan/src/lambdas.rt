@@ -11,7 +11,8 @@ use lq_host::Asks;
 use lq_tree::Form;
 use lq_value::{Scalar, TableNumber, Value};
 
-/// A lambda, and which cell it gives of the rows of a table, where it is known to give one.
+/// A lambda, and what is known of it: which cell it gives of the rows of a table, or that it gives each
+/// item itself.
 #[derive(Clone, Copy, Drop)]
 pub struct Lambda<'f> {
     /// What the lambda gives of the item in its slot.
@@ -20,10 +21,12 @@ pub struct Lambda<'f> {
     pub(crate) table: TableNumber,
     /// The place of the cell.
     pub(crate) place: Option<usize>,
+    /// Whether the lambda is known to give the item itself.
+    pub(crate) is_item: bool,
 }
 
 impl Lambda<'_> {
-    ghost use Rattle.std.specs.Prelude.{List};
+    ghost use Rattle.std.specs.Prelude.{List, true};
     ghost use Rattle.lq_language.specs.Worlds.{World};
     ghost use Rattle.lq_tree.specs.FormMeaning.{form_meaning, with_item};
     ghost use Rattle.lq_plan.specs.Prepared.{GivesCell};
@@ -56,10 +59,20 @@ impl Lambda<'_> {
             Value::Scalar(_) | Value::Rec(_) | Value::Group(_, _) | Value::Seq(_, _) => None,
         }
     }
+
+    /// Whether the lambda is known to give the item itself.
+    #[inline]
+    pub fn gives_item<R: TableRow>(&self, item: &Value<R>) -> bool
+        ensures { (world : World R) (slots : List (Value R))
+            → GivesCell R.table_of R.shown world slots self.now → result ≡ true
+            → form_meaning world self.now.body.now (with_item world slots item.now) ≡ Ok item.now }
+    {
+        self.is_item
+    }
 }
 
 /// The number of the table whose cell a form is, where it is one. Any answer is right: each row is asked for its table.
-fn table_of_cell(body: &Form) -> TableNumber {
+pub(crate) fn table_of_cell(body: &Form) -> TableNumber {
     match body {
         Form::Column(_, table, _) => *table,
         _ => 0,
@@ -77,6 +90,12 @@ impl<'a, R: TableRow, S: Reads<R>, H: Asks> Sources<'a, R, S, H> {
     {
         let table = table_of_cell(body);
         let place = self.cell_place(body, table, slots);
-        Lambda { body, table, place }
+        let is_item = self.is_item(body, slots);
+        Lambda {
+            body,
+            table,
+            place,
+            is_item,
+        }
     }
 }

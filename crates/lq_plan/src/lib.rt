@@ -7,7 +7,8 @@
 //!
 //! What a plan says of a row is what its conditions and lambda mean there, or nothing. `Base::pull` gives the
 //! next item in order, without the rows that a plan leaves out. The modules give what operators, methods
-//! and clauses mean on values that are there, or their fault.
+//! and clauses mean on values that are there, or their fault; `leading` adds items, by keys that are cells, to
+//! the first ones of an order.
 #![tactic(auto)]
 
 pub mod arrangements;
@@ -15,6 +16,7 @@ mod bases;
 pub mod counts;
 mod hosts;
 mod lambdas;
+pub mod leading;
 pub mod parts;
 mod pipes;
 mod places;

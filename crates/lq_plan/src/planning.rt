@@ -4,6 +4,7 @@ ghost use Rattle.lq_value.specs.declared.scalar.Scalar.{Scalar};
 ghost use Rattle.lq_value.specs.declared.value.Fault.TheVariants as fault;
 ghost use Rattle.lq_language.specs.Operations.{of_two, on_ok, searched, truth_of};
 
+use crate::lambdas::table_of_cell;
 use crate::pipes::Pipe;
 use crate::plans::Plan;
 use crate::rows::Reads;
@@ -31,6 +32,16 @@ fn table_below(form: &Form) -> Option<TableNumber> {
     }
 }
 
+/// The number of the table whose cell a stage gives, where it gives one. Any answer is right: a plan asks
+/// each row for its table.
+fn table_of_stage(stage: &Stage<'_>) -> TableNumber {
+    match stage {
+        Stage::Plain => 0,
+        Stage::Where(_) => 0,
+        Stage::Select(body) => table_of_cell(body),
+    }
+}
+
 /// The operator, where it looks for a text.
 #[tactic(auto, using(crate::proofs::PreparedLemmas::search_truth))]
 fn search_of(op: Op) -> Option<Op>
@@ -47,7 +58,7 @@ fn search_of(op: Op) -> Option<Op>
 }
 
 impl<'a, R: TableRow, S: Reads<R>, H: Asks> Sources<'a, R, S, H> {
-    ghost use Rattle.std.specs.Prelude.{◌≡◌, IfOk, IfSome};
+    ghost use Rattle.std.specs.Prelude.{◌≡◌, IfOk, IfSome, true};
     ghost use Rattle.lq_language.specs.Operations.{operation_of};
     ghost use Rattle.lq_language.specs.declared.operation.Op.TheVariants as op;
     ghost use Rattle.lq_tree.specs.declared.tree.Form.TheVariants as form;
@@ -56,7 +67,7 @@ impl<'a, R: TableRow, S: Reads<R>, H: Asks> Sources<'a, R, S, H> {
     ghost use Rattle.lq_plan.specs.Pulling.{stream_behind};
     ghost use Rattle.lq_plan.specs.Slots.{values_in};
     ghost use Rattle.lq_plan.specs.declared.stages.Stage.TheVariants as of_stage;
-    ghost use Rattle.lq_plan.specs.Plans.{world, Decides, DecidesPassing, DecidesStage, IsCell, IsConstant, IsPlan, IsPlanned, PlansRows, SelectsCell};
+    ghost use Rattle.lq_plan.specs.Plans.{world, Decides, DecidesPassing, DecidesStage, IsCell, IsConstant, IsItem, IsPlan, IsPlanned, PlansRows, SelectsCell, SelectsItem};
 
     /// The place of the cell that a form is of a row in the next slot, where it is one.
     #[tactic(auto, using(crate::proofs::PreparedLemmas::own_cell_at))]
@@ -83,6 +94,17 @@ impl<'a, R: TableRow, S: Reads<R>, H: Asks> Sources<'a, R, S, H> {
         }
         let _name = column_name(self.tables, *number, *column)?;
         Some(*column as usize)
+    }
+
+    /// Whether a form is known to be what stands in the next slot, whatever that is.
+    #[tactic(auto, using(crate::proofs::PreparedLemmas::next_item))]
+    pub(crate) fn is_item(&self, of: &Form, slots: &Slots<'_, R>) -> bool
+        ensures { result ≡ true → IsItem self.now slots.now of.now }
+    {
+        match of {
+            Form::Slot(slot) => slots.is_next(*slot),
+            _ => false,
+        }
     }
 
     /// The cell of a row that stands in a slot before the next one, where it is there.
@@ -387,8 +409,20 @@ impl<'a, R: TableRow, S: Reads<R>, H: Asks> Sources<'a, R, S, H> {
         }
     }
 
+    /// Whether a stage is a lambda that is known to give the item itself.
+    fn stage_item(&self, stage: &Stage<'_>, slots: &Slots<'_, R>) -> bool
+        ensures { result ≡ true → SelectsItem self.now slots.now stage.now }
+    {
+        match stage {
+            Stage::Plain => false,
+            Stage::Where(_) => false,
+            Stage::Select(body) => self.is_item(body, slots),
+        }
+    }
+
     /// What can be found out once about the rows of the table below a source, for the conditions above
-    /// the table and the stage after the source.
+    /// the table and the stage after the source. Where no table is below it, the conditions decide nothing
+    /// beforehand, and only the stage is planned, for rows that stand among the items.
     #[tactic(auto, using(crate::proofs::PassingLemmas::plans))]
     fn plan(
         &self,
@@ -399,18 +433,22 @@ impl<'a, R: TableRow, S: Reads<R>, H: Asks> Sources<'a, R, S, H> {
         ensures { IfOk result (IsPlan self.now slots.now stage.now source.now) }
     {
         let Some(table) = table_below(source) else {
+            let table = table_of_stage(stage);
             return Ok(Plan {
-                table: 0,
+                table,
                 condition: Condition::Silent,
-                place: None,
+                place: self.stage_cell(stage, table, slots),
+                gives_row: self.stage_item(stage, slots),
             });
         };
         let condition = self.stage_condition(stage, source, table, slots)?;
         let place = self.stage_cell(stage, table, slots);
+        let gives_row = self.stage_item(stage, slots);
         Ok(Plan {
             table,
             condition,
             place,
+            gives_row,
         })
     }
 
@@ -464,6 +502,7 @@ impl<'a, R: TableRow, S: Reads<R>, H: Asks> Sources<'a, R, S, H> {
             table,
             condition,
             place: None,
+            gives_row: false,
         })
     }
 }

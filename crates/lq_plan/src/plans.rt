@@ -2,7 +2,7 @@
 use crate::tables::TableRow;
 use lq_condition::Condition;
 use lq_guard::RowTest;
-use lq_value::{Scalar, TableNumber};
+use lq_value::{Scalar, TableNumber, Value};
 
 /// What is found out once about the rows of a table. Where a plan says nothing of a row, the row
 /// goes the general way.
@@ -14,12 +14,19 @@ pub struct Plan {
     pub(crate) condition: Condition,
     /// The place of the cell that the last lambda gives of a row, where it gives a cell.
     pub(crate) place: Option<usize>,
+    /// Whether the last lambda gives the row itself.
+    pub(crate) gives_row: bool,
 }
 
 impl Plan {
-    ghost use Rattle.std.specs.Prelude.{◌≡◌};
+    ghost use Rattle.std.specs.Prelude.{◌≡◌, List, IfSome};
     ghost use Rattle.std.specs.Option.{option_copied};
+    ghost use Rattle.lq_value.specs.declared.value.Value.{Value};
+    ghost use Rattle.lq_language.specs.Worlds.{World};
+    ghost use Rattle.lq_tree.specs.declared.tree.Form.{Form};
     ghost use Rattle.lq_plan.specs.PlannedRows.{row_cell, row_verdict};
+    ghost use Rattle.lq_plan.specs.Prepared.{IsPlanned, SelectsScalar};
+    ghost use Rattle.lq_plan.specs.declared.stages.Stage.{Stage};
 
     /// Whether a row passes, where the plan says so: it says nothing of rows of other tables, and of
     /// a row whose cells meet a fault. Takes no memory.
@@ -39,6 +46,32 @@ impl Plan {
         ensures { option_copied result ≡ row_cell R.table_of R.shown self.now row.now }
     {
         row.cells().get(self.place?)
+    }
+
+    /// The cell that the last lambda gives of an item, where it is known to give one: of a row of the
+    /// plan's table.
+    #[inline]
+    #[tactic(auto, using(crate::proofs::PlanLaws::item_planned))]
+    pub fn item_cell<'v, R: TableRow>(&self, item: &'v Value<R>) -> Option<&'v Scalar>
+        ensures { (world : World R) (slots : List (Value R)) (st : Stage) (source : Form)
+            → IsPlanned R.table_of R.shown world slots st source self.now
+            → IfSome result (λ s. SelectsScalar world slots st item.now s.now) }
+    {
+        let Value::Row(row) = item else {
+            return None;
+        };
+        if row.table() != self.table {
+            return None;
+        }
+        self.cell(row)
+    }
+
+    /// Whether the stage after the source is a lambda that gives the row itself, and each other item too.
+    #[inline]
+    pub fn gives_row(&self) -> bool
+        ensures { result ≡ self.now.gives_row }
+    {
+        self.gives_row
     }
 }
 

@@ -1,16 +1,18 @@
-use Rattle.std.proofs.Common.{◌≡◌, [], None, Some, IfErr, IfOk, Ok, Err, ap, refl, rules, subst, sym, true, ◌∙◌}
+use Rattle.std.proofs.Common.{false, ◌≡◌, [], None, Some, IfErr, IfOk, Ok, Err, ap, refl, rules, subst, sym, true, ◌∙◌}
 use Rattle.lq_value.specs.SameAndOrder.{same_values}
 use Rattle.lq_grammar.specs.declared.syntax.Field.{Field}
 use Rattle.lq_grammar.specs.declared.syntax.SortKey.{SortKey}
 use Rattle.lq_operators.specs.Answers.{IsAnswer}
+use Rattle.lq_operators.specs.declared.error.RunError.TheVariants as error
 use Rattle.lq_operators.specs.Matching.{pairs_of}
 use Rattle.lq_operators.specs.Tallies.{tallied}
 use Rattle.lq_language.specs.Arrangement.{all_of}
 use Rattle.lq_language.specs.Enumerable.{in_front}
-use Rattle.lq_language.specs.Stream.{Stream, both, one, then_stream}
-use Rattle.lq_language.specs.Meaning.{simple_meaning}
+use Rattle.lq_language.specs.Stream.{Stream, both, one, then_stream, select_by, then_ending, first_keys, groups_of}
+use Rattle.lq_language.specs.Meaning.{given_meaning, simple_meaning}
+use Rattle.lq_language.specs.declared.methods.Given.TheVariants as of_given
 use Rattle.lq_language.specs.OperandMeaning.{as_value, sequence}
-use Rattle.lq_tree.specs.FormMeaning.{form_meaning}
+use Rattle.lq_tree.specs.FormMeaning.{form_meaning, with_item}
 use Rattle.lq_tree.specs.Watches.{are_covered_fields, are_covered_keys, has_watched_rows, have_watched_rows, is_covered, is_covered_join}
 use Rattle.lq_tree.specs.declared.tree.Form.{Form}
 use Rattle.lq_tree.proofs.LogLaws.{pulled_more, pulled_none, pulled_over}
@@ -18,13 +20,13 @@ use Rattle.lq_tree.proofs.WatchLaws.{stream_passes, value_passes}
 use Rattle.lq_tree.proofs.WatchedValueLaws.{passing_row, row_passes, slot_more}
 use Rattle.lq_plan.specs.Arrangements.{column_of, columns_of, key_at}
 use Rattle.lq_plan.specs.Meanings.{Answers, holds_of, items_meant, value_of_item, scalar_in, truth_in}
-use Rattle.lq_plan.specs.Pipes.{items_left}
+use Rattle.lq_plan.specs.Pipes.{all_items, items_left}
 use Rattle.lq_plan.specs.PlannedRows.{IsPulled, kept_stream, pulled_value}
-use Rattle.lq_plan.specs.Pulling.{base_stream, item_at, outcome_stream, through_select, through_stage}
+use Rattle.lq_plan.specs.Pulling.{base_stream, item_at, outcome_stream, through_select, through_stage, last}
 use Rattle.lq_plan.specs.Slots.{values_in}
 use Rattle.lq_plan.specs.Watching.{facts, is_covered_pipe, is_covered_stage, matches_pass}
 use Rattle.lq_plan.proofs.PlanLaws.{row_says}
-use Rattle.lq_plan.proofs.PullLaws.{left_opened, passes_stage, stage_items, table_opened}
+use Rattle.lq_plan.proofs.PullLaws.{left_opened, stage_items, passes_stage, table_opened, bare_item}
 use Rattle.lq_plan.proofs.WatchLaws.{slots_pass, source_covered, stage_covered}
 use Rattle.lq_tree.proofs.CoveredLaws.{covered_all_body, covered_all_source, covered_and_left, covered_and_right, covered_binary_left, covered_binary_right, covered_coalesce_left, covered_coalesce_right, covered_column, covered_conditional_condition, covered_conditional_first, covered_conditional_second, covered_first, covered_given_argument, covered_given_source, covered_group_by_element, covered_group_by_key, covered_group_by_source, covered_host, covered_is_null, covered_join_parts, covered_join_source, covered_key, covered_member, covered_or_left, covered_or_right, covered_order_keys, covered_order_source, covered_pair_first, covered_pair_second, covered_record, covered_second, covered_select_body, covered_select_many_inner, covered_select_many_result, covered_select_many_source, covered_select_source, covered_sequence, covered_simple, covered_unary, covered_where_body, covered_where_source, host_passes, join_inner, join_inner_key, join_outer_key, join_result}
 use Rattle.lq_plan.specs.Handing.{HandsOut, handed_out, rows_to_come}
@@ -38,17 +40,19 @@ use Rattle.lq_pipe.specs.Runs.{world}
 use Rattle.lq_pipe.specs.Steps.{GivesStep, Steps}
 use Rattle.lq_pipe.proofs.AnswerLemmas.{all_answer, given_answer, members_goes, record_ended, record_stopped, select_answer, where_answer}
 use Rattle.lq_pipe.proofs.CountLaws.{Tallies, all_begins, cell_of_row, contains_begins, contains_on, given_read, simple_read, staged_ends, staged_goes, tally_begins, tally_on, tally_over}
-use Rattle.lq_pipe.proofs.GroupLemmas.{firsts_begin, firsts_ended, firsts_on, grouped_begins, grouped_ended, grouped_on, grouped_stopped}
-use Rattle.lq_pipe.proofs.ItemLemmas.{expansion_is, group_by_done, group_by_stops, join_answer, join_stops, joined_met, joined_unmet, matched_is, select_many_answer}
+use Rattle.lq_pipe.proofs.ItemLemmas.{expansion_is, group_by_done, group_by_stops, join_answer, join_stops, select_many_answer}
 use Rattle.lq_pipe.proofs.KeyLemmas.{all_goes, all_stops, counted_answer, key_answer, key_by, key_cell, order_by_done, order_by_stops}
-use Rattle.lq_pipe.proofs.LogLemmas.{Covers, above_source, above_stage, all_on, all_there, asked, covered_as, covers_pipe, items_read, matched_pass, next_passes, opened, pairs_match, passed_item, source_of, stage_as, stage_over, took, went_on}
+use Rattle.lq_pipe.proofs.LogLemmas.{Covers, above_source, above_stage, all_on, all_there, asked, covered_as, covers_pipe, items_read, next_passes, opened, pairs_match, passed_item, source_of, stage_as, stage_over, took, went_on, pipe_covered}
 use Rattle.lq_pipe.proofs.PullLaws.{begins_read, comes, comes_begins, comes_on, fewer, next_dropped, next_ended, next_fault, next_given, next_item, pulled, read_ended, read_on, selects_begin, selects_on, selects_stopped}
-use Rattle.lq_pipe.proofs.StreamLemmas.{select_goes, select_stops}
 use Rattle.lq_value.specs.declared.value.End.TheVariants as end
 use Rattle.lq_value.specs.declared.value.Value.{Value}
 use Rattle.lq_value.specs.declared.value.Value.TheVariants as value
 use Rattle.lq_plan.specs.declared.bases.Pulled.TheVariants as of_pulled
 use Rattle.lq_tree.specs.declared.tree.Form.TheVariants as form
+use Rattle.lq_pipe.proofs.JoinLemmas.{behind_on, behind_stopped, given_ended, given_on, given_stopped, group_passes, joined_met, joined_unmet, met_as, met_group, met_there, none_there, watched_at, watched_there}
+use Rattle.lq_pipe.proofs.GatherLemmas.{came_watched, cell_comes, firsts_answered, gathered_begins, gathered_ended, gathered_on, gathered_stopped, gathers_as, pairs_end, pairs_none, pairs_as, pairs_then, scalar_comes, took_asked}
+use Rattle.lq_pipe.specs.Gathering.{AddsFirsts, AddsPairs}
+use Rattle.lq_pipe.proofs.StepLemmas.{alone, given_last, given_select, given_stage}
 use Rattle.lq_pipe.proofs.running.Running.+running.Goals as goal
 
 pub scalar-returns-in_ok-evaluate-in-None-clause-meant : goal.scalar-returns-in_ok-evaluate-in-None-clause-meant
@@ -79,11 +83,6 @@ record-returns-in_err-value-clause-meant g t c =
     c.field-item.is c.loop-field-test.true c.loop-field.invariant.meant c.in_err-value.field-0.0 c.in_err-value.ensures.meant in
     let same : c.from_residual.result ≡ Err c.in_err-value.field-0.0 = search rules in
     subst (λ r. IsAnswer (form_meaning (world c.args.self.now) (form.Record c.args.fields.now) (values_in c.args.slots.now)) r) (sym same) stops
-
-pub select_all-returns-in-Err-clause-meant : goal.select_all-returns-in-Err-clause-meant
-select_all-returns-in-Err-clause-meant g t c =
-    select_stops (value_of_item (world c.args.self.now) c.args.body.now c.args.slots.now) c.args.items.now end.Done _ c.loop-item.values _ _ _
-    c.item-item.is c.loop-item-test.true (sym c.in-Err.is ∙ c.in_ok-value.ensures.meant) c.loop-item.invariant.meant
 
 pub value_by-returns-in_ok-copy_scalar-in-Some-clause-meant : goal.value_by-returns-in_ok-copy_scalar-in-Some-clause-meant
 value_by-returns-in_ok-copy_scalar-in-Some-clause-meant g t c =
@@ -182,61 +181,26 @@ key_column-loop-item-preserved g t c =
       grows = λ w start h s a gr. c.key_of.ensures.grows w start (covered_as (world c.args.self.now) w _ _ c.lambda-lambda.ensures.body h) s (all_there (has_watched_rows w) _ _ _ a c.item-item.is c.loop-item-test.true) (c.loop-item.invariant.grows w start h s a gr);
     }
 
-pub grouped-loop-grouping-init : goal.grouped-loop-grouping-init
-grouped-loop-grouping-init g t c =
-    record {
-      meant = grouped_begins (key_and_element (world c.args.self.now) (values_in c.args.slots.now) c.args.key.now.body.now (Some c.args.element.now.body)) _ _ _ c.in_ok-grouping.ensures (left_opened (world c.args.self.now) (values_in c.args.slots.now) _ _ c.in_ok-base.base c.in_ok-base.ensures.meant);
-      log = opened (world c.args.self.now) (facts c.args.self.now.sources) g.R.TableRow.table_of g.R.RowRef.shown (values_in c.args.slots.now) c.args.pipe.now (λ w. Covers (world c.args.self.now) (values_in c.args.slots.now) c.args.pipe.now w × (is_covered (world c.args.self.now) w c.args.key.now.body.now ≡ true) × (is_covered (world c.args.self.now) w c.args.element.now.body.now ≡ true)) _ _ c.in_ok-base.base (λ w start p gr. c.open.ensures.grows w start p.0.source_in p.0.slots_in gr) (λ w p. c.in_ok-base.ensures.from w p.0.source_in p.0.slots_in);
-    }
-
-pub grouped-returns-in_err-item-clause-grows : goal.grouped-returns-in_err-item-clause-grows
-grouped-returns-in_err-item-clause-grows g t c =
-    λ w start a b hk he s gr.
-    (went_on (world c.args.self.now) (facts c.args.self.now.sources) g.R.TableRow.table_of g.R.RowRef.shown (values_in c.args.slots.now) c.args.pipe.now (λ w. Covers (world c.args.self.now) (values_in c.args.slots.now) c.args.pipe.now w × (is_covered (world c.args.self.now) w c.args.key.now.body.now ≡ true) × (is_covered (world c.args.self.now) w c.args.element.now.body.now ≡ true)) (λ w p. p.0) _ _ _ c.loop-grouping.base c.next.new.base c.loop-grouping.invariant.log c.next.ensures.pulled).grows w start ((covers_pipe (world c.args.self.now) (values_in c.args.slots.now) c.args.pipe.now w a b s), hk, he) gr
-
-pub grouped-returns-in_err-key-in-Ok-clause-grows : goal.grouped-returns-in_err-key-in-Ok-clause-grows
-grouped-returns-in_err-key-in-Ok-clause-grows g t c =
-    λ w start a b hk he s gr.
-    (asked (world c.args.self.now) (facts c.args.self.now.sources) g.R.TableRow.table_of g.R.RowRef.shown (values_in c.args.slots.now) c.args.pipe.now (λ w. Covers (world c.args.self.now) (values_in c.args.slots.now) c.args.pipe.now w × (is_covered (world c.args.self.now) w c.args.key.now.body.now ≡ true) × (is_covered (world c.args.self.now) w c.args.element.now.body.now ≡ true)) _ _ _ _ (went_on (world c.args.self.now) (facts c.args.self.now.sources) g.R.TableRow.table_of g.R.RowRef.shown (values_in c.args.slots.now) c.args.pipe.now (λ w. Covers (world c.args.self.now) (values_in c.args.slots.now) c.args.pipe.now w × (is_covered (world c.args.self.now) w c.args.key.now.body.now ≡ true) × (is_covered (world c.args.self.now) w c.args.element.now.body.now ≡ true)) (λ w p. p.0) _ _ _ c.loop-grouping.base c.next.new.base c.loop-grouping.invariant.log c.next.ensures.pulled)
-    (λ w start p gr. c.key_and_element.ensures.grows w start p.1 p.2 p.0.slots_in (next_passes (world c.args.self.now) (facts c.args.self.now.sources) g.R.TableRow.table_of g.R.RowRef.shown (values_in c.args.slots.now) c.args.pipe.now (λ w. Covers (world c.args.self.now) (values_in c.args.slots.now) c.args.pipe.now w × (is_covered (world c.args.self.now) w c.args.key.now.body.now ≡ true) × (is_covered (world c.args.self.now) w c.args.element.now.body.now ≡ true)) (λ w p. p.0) _ _ c.loop-grouping.base _ c.in-Ok.item (items_left (world c.args.self.now) (values_in c.args.slots.now) c.args.pipe.now c.next.new.base) c.loop-grouping.invariant.log c.requires.planned c.in-Ok.is c.in_ok-item.ensures.meant w p) gr)).grows w start ((covers_pipe (world c.args.self.now) (values_in c.args.slots.now) c.args.pipe.now w a b s), hk, he) gr
-
-pub grouped-returns-in_err-add-in-Ok-2-clause-grows : goal.grouped-returns-in_err-add-in-Ok-2-clause-grows
-grouped-returns-in_err-add-in-Ok-2-clause-grows g t c =
-    λ w start a b hk he s gr.
-    (asked (world c.args.self.now) (facts c.args.self.now.sources) g.R.TableRow.table_of g.R.RowRef.shown (values_in c.args.slots.now) c.args.pipe.now (λ w. Covers (world c.args.self.now) (values_in c.args.slots.now) c.args.pipe.now w × (is_covered (world c.args.self.now) w c.args.key.now.body.now ≡ true) × (is_covered (world c.args.self.now) w c.args.element.now.body.now ≡ true)) _ _ _ _ (went_on (world c.args.self.now) (facts c.args.self.now.sources) g.R.TableRow.table_of g.R.RowRef.shown (values_in c.args.slots.now) c.args.pipe.now (λ w. Covers (world c.args.self.now) (values_in c.args.slots.now) c.args.pipe.now w × (is_covered (world c.args.self.now) w c.args.key.now.body.now ≡ true) × (is_covered (world c.args.self.now) w c.args.element.now.body.now ≡ true)) (λ w p. p.0) _ _ _ c.loop-grouping.base c.next.new.base c.loop-grouping.invariant.log c.next.ensures.pulled)
-    (λ w start p gr. c.key_and_element.ensures.grows w start p.1 p.2 p.0.slots_in (next_passes (world c.args.self.now) (facts c.args.self.now.sources) g.R.TableRow.table_of g.R.RowRef.shown (values_in c.args.slots.now) c.args.pipe.now (λ w. Covers (world c.args.self.now) (values_in c.args.slots.now) c.args.pipe.now w × (is_covered (world c.args.self.now) w c.args.key.now.body.now ≡ true) × (is_covered (world c.args.self.now) w c.args.element.now.body.now ≡ true)) (λ w p. p.0) _ _ c.loop-grouping.base _ c.in-Ok.item (items_left (world c.args.self.now) (values_in c.args.slots.now) c.args.pipe.now c.next.new.base) c.loop-grouping.invariant.log c.requires.planned c.in-Ok.is c.in_ok-item.ensures.meant w p) gr)).grows w start ((covers_pipe (world c.args.self.now) (values_in c.args.slots.now) c.args.pipe.now w a b s), hk, he) gr
-
-pub grouped-returns-in-Err-2-clause-grows : goal.grouped-returns-in-Err-2-clause-grows
-grouped-returns-in-Err-2-clause-grows g t c =
-    λ w start a b hk he s gr.
-    (asked (world c.args.self.now) (facts c.args.self.now.sources) g.R.TableRow.table_of g.R.RowRef.shown (values_in c.args.slots.now) c.args.pipe.now (λ w. Covers (world c.args.self.now) (values_in c.args.slots.now) c.args.pipe.now w × (is_covered (world c.args.self.now) w c.args.key.now.body.now ≡ true) × (is_covered (world c.args.self.now) w c.args.element.now.body.now ≡ true)) _ _ _ _ (went_on (world c.args.self.now) (facts c.args.self.now.sources) g.R.TableRow.table_of g.R.RowRef.shown (values_in c.args.slots.now) c.args.pipe.now (λ w. Covers (world c.args.self.now) (values_in c.args.slots.now) c.args.pipe.now w × (is_covered (world c.args.self.now) w c.args.key.now.body.now ≡ true) × (is_covered (world c.args.self.now) w c.args.element.now.body.now ≡ true)) (λ w p. p.0) _ _ _ c.loop-grouping.base c.next.new.base c.loop-grouping.invariant.log c.next.ensures.pulled)
-    (λ w start p gr. c.key_and_element.ensures.grows w start p.1 p.2 p.0.slots_in (next_passes (world c.args.self.now) (facts c.args.self.now.sources) g.R.TableRow.table_of g.R.RowRef.shown (values_in c.args.slots.now) c.args.pipe.now (λ w. Covers (world c.args.self.now) (values_in c.args.slots.now) c.args.pipe.now w × (is_covered (world c.args.self.now) w c.args.key.now.body.now ≡ true) × (is_covered (world c.args.self.now) w c.args.element.now.body.now ≡ true)) (λ w p. p.0) _ _ c.loop-grouping.base _ c.in-Ok.item (items_left (world c.args.self.now) (values_in c.args.slots.now) c.args.pipe.now c.next.new.base) c.loop-grouping.invariant.log c.requires.planned c.in-Ok.is c.in_ok-item.ensures.meant w p) gr)).grows w start ((covers_pipe (world c.args.self.now) (values_in c.args.slots.now) c.args.pipe.now w a b s), hk, he) gr
-
 pub grouped-returns-in-Err-clause-grows : goal.grouped-returns-in-Err-clause-grows
 grouped-returns-in-Err-clause-grows g t c =
     λ w start a b hk he s gr.
-    (went_on (world c.args.self.now) (facts c.args.self.now.sources) g.R.TableRow.table_of g.R.RowRef.shown (values_in c.args.slots.now) c.args.pipe.now (λ w. Covers (world c.args.self.now) (values_in c.args.slots.now) c.args.pipe.now w × (is_covered (world c.args.self.now) w c.args.key.now.body.now ≡ true) × (is_covered (world c.args.self.now) w c.args.element.now.body.now ≡ true)) (λ w p. p.0) _ _ _ c.loop-grouping.base c.next.new.base c.loop-grouping.invariant.log c.next.ensures.pulled).grows w start ((covers_pipe (world c.args.self.now) (values_in c.args.slots.now) c.args.pipe.now w a b s), hk, he) gr
-
-pub grouped-loop-grouping-preserved : goal.grouped-loop-grouping-preserved
-grouped-loop-grouping-preserved g t c =
-    record {
-      meant = grouped_on (key_and_element (world c.args.self.now) (values_in c.args.slots.now) c.args.key.now.body.now (Some c.args.element.now.body)) (items_left (world c.args.self.now) (values_in c.args.slots.now) c.args.pipe.now c.loop-grouping.base) (items_left (world c.args.self.now) (values_in c.args.slots.now) c.args.pipe.now c.next.new.base) c.in-Ok.item c.in-Ok-2.key c.in-Ok-2.element _ (groups_in c.loop-grouping.grouping) _ (subst (λ s. Steps (items_left (world c.args.self.now) (values_in c.args.slots.now) c.args.pipe.now c.loop-grouping.base) s (items_left (world c.args.self.now) (values_in c.args.slots.now) c.args.pipe.now c.next.new.base)) c.in-Ok.is c.in_ok-item.ensures.meant)
-          (sym c.in-Ok-2.is ∙ c.in_ok-key-in-Ok.ensures.meant) c.in_ok-add-in-Ok-2.ensures c.loop-grouping.invariant.meant;
-      log = (asked (world c.args.self.now) (facts c.args.self.now.sources) g.R.TableRow.table_of g.R.RowRef.shown (values_in c.args.slots.now) c.args.pipe.now (λ w. Covers (world c.args.self.now) (values_in c.args.slots.now) c.args.pipe.now w × (is_covered (world c.args.self.now) w c.args.key.now.body.now ≡ true) × (is_covered (world c.args.self.now) w c.args.element.now.body.now ≡ true)) _ _ _ _ (went_on (world c.args.self.now) (facts c.args.self.now.sources) g.R.TableRow.table_of g.R.RowRef.shown (values_in c.args.slots.now) c.args.pipe.now (λ w. Covers (world c.args.self.now) (values_in c.args.slots.now) c.args.pipe.now w × (is_covered (world c.args.self.now) w c.args.key.now.body.now ≡ true) × (is_covered (world c.args.self.now) w c.args.element.now.body.now ≡ true)) (λ w p. p.0) _ _ _ c.loop-grouping.base c.next.new.base c.loop-grouping.invariant.log c.next.ensures.pulled)
-          (λ w start p gr. c.key_and_element.ensures.grows w start p.1 p.2 p.0.slots_in (next_passes (world c.args.self.now) (facts c.args.self.now.sources) g.R.TableRow.table_of g.R.RowRef.shown (values_in c.args.slots.now) c.args.pipe.now (λ w. Covers (world c.args.self.now) (values_in c.args.slots.now) c.args.pipe.now w × (is_covered (world c.args.self.now) w c.args.key.now.body.now ≡ true) × (is_covered (world c.args.self.now) w c.args.element.now.body.now ≡ true)) (λ w p. p.0) _ _ c.loop-grouping.base _ c.in-Ok.item (items_left (world c.args.self.now) (values_in c.args.slots.now) c.args.pipe.now c.next.new.base) c.loop-grouping.invariant.log c.requires.planned c.in-Ok.is c.in_ok-item.ensures.meant w p) gr));
-    }
-
-pub grouped-loop-grouping-smaller : goal.grouped-loop-grouping-smaller
-grouped-loop-grouping-smaller g t c =
-    fewer (items_left (world c.args.self.now) (values_in c.args.slots.now) c.args.pipe.now c.loop-grouping.base) (items_left (world c.args.self.now) (values_in c.args.slots.now) c.args.pipe.now c.next.new.base) c.in-Ok.item (subst (λ s. Steps (items_left (world c.args.self.now) (values_in c.args.slots.now) c.args.pipe.now c.loop-grouping.base) s (items_left (world c.args.self.now) (values_in c.args.slots.now) c.args.pipe.now c.next.new.base)) c.in-Ok.is c.in_ok-item.ensures.meant)
-
-pub grouped-returns-in-Err-2-clause-meant : goal.grouped-returns-in-Err-2-clause-meant
-grouped-returns-in-Err-2-clause-meant g t c =
-    grouped_stopped (key_and_element (world c.args.self.now) (values_in c.args.slots.now) c.args.key.now.body.now (Some c.args.element.now.body)) (items_left (world c.args.self.now) (values_in c.args.slots.now) c.args.pipe.now c.loop-grouping.base) (items_left (world c.args.self.now) (values_in c.args.slots.now) c.args.pipe.now c.next.new.base) c.in-Ok.item _ _ _ (subst (λ s. Steps (items_left (world c.args.self.now) (values_in c.args.slots.now) c.args.pipe.now c.loop-grouping.base) s (items_left (world c.args.self.now) (values_in c.args.slots.now) c.args.pipe.now c.next.new.base)) c.in-Ok.is c.in_ok-item.ensures.meant) (sym c.in-Err-2.is ∙ c.in_ok-key-in-Ok.ensures.meant) c.loop-grouping.invariant.meant
+    c.loop-pulled.invariant.log.grows w start (covers_pipe (world c.args.self.now) (values_in c.args.slots.now) c.args.pipe.now w a b s, hk, he) gr
 
 pub grouped-returns-in-Err-clause-meant : goal.grouped-returns-in-Err-clause-meant
 grouped-returns-in-Err-clause-meant g t c =
-    grouped_ended (key_and_element (world c.args.self.now) (values_in c.args.slots.now) c.args.key.now.body.now (Some c.args.element.now.body)) (items_left (world c.args.self.now) (values_in c.args.slots.now) c.args.pipe.now c.loop-grouping.base) c.in-Err.end _ _ (subst (λ s. Steps (items_left (world c.args.self.now) (values_in c.args.slots.now) c.args.pipe.now c.loop-grouping.base) s (items_left (world c.args.self.now) (values_in c.args.slots.now) c.args.pipe.now c.next.new.base)) c.in-Err.is c.in_ok-item.ensures.meant) c.loop-grouping.invariant.meant
+    gathered_ended (groups_of same_values) (keys_and_elements (world c.args.self.now) (values_in c.args.slots.now) c.args.key.now.body.now (Some c.args.element.now.body) (items_left (world c.args.self.now) (values_in c.args.slots.now) c.args.pipe.now c.loop-pulled.base)) _ (groups_in c.loop-pulled.grouping) c.in-Err.end (ap (λ (s : Stream (Value _)). keys_and_elements (world c.args.self.now) (values_in c.args.slots.now) c.args.key.now.body.now (Some c.args.element.now.body) s) (next_ended g.R.TableRow.table_of g.R.RowRef.shown (world c.args.self.now) (values_in c.args.slots.now) c.args.pipe.now c.loop-pulled.base c.loop-pulled.base c.in-Err.end c.requires.planned refl (subst (λ r. IfErr r (λ e. kept_stream g.R.TableRow.table_of g.R.RowRef.shown c.args.pipe.now.plan c.loop-pulled.base ≡ ([], e))) c.in-Err.is c.pull.ensures.end))) c.loop-pulled.invariant.meant
+
+pub grouped-returns-in-Fault-clause-grows : goal.grouped-returns-in-Fault-clause-grows
+grouped-returns-in-Fault-clause-grows g t c =
+    λ w start a b hk he s gr.
+    (took_asked (world c.args.self.now) (facts c.args.self.now.sources) g.R.TableRow.table_of g.R.RowRef.shown (values_in c.args.slots.now) c.args.pipe.now (λ w. Covers (world c.args.self.now) (values_in c.args.slots.now) c.args.pipe.now w × (is_covered (world c.args.self.now) w c.args.key.now.body.now ≡ true) × (is_covered (world c.args.self.now) w c.args.element.now.body.now ≡ true)) (λ w p. p.0) _ _ _ c.loop-pulled.base c.pull.new.self (pulled_value c.in-Ok.pulled) c.loop-pulled.invariant.log (subst (λ r. IfOk r (λ p. kept_stream g.R.TableRow.table_of g.R.RowRef.shown c.args.pipe.now.plan c.loop-pulled.base ≡ in_front (pulled_value p) (kept_stream g.R.TableRow.table_of g.R.RowRef.shown c.args.pipe.now.plan c.pull.new.self))) c.in-Ok.is c.pull.ensures.item)
+    (λ w start p i gr. c.group_next.ensures.grows w start (pipe_covered (world c.args.self.now) (values_in c.args.slots.now) c.args.pipe.now w p.0) p.1 p.2 i gr)).grows w start (covers_pipe (world c.args.self.now) (values_in c.args.slots.now) c.args.pipe.now w a b s, hk, he) gr
+
+pub grouped-returns-in_err-group_next-in-Ok-clause-grows : goal.grouped-returns-in_err-group_next-in-Ok-clause-grows
+grouped-returns-in_err-group_next-in-Ok-clause-grows g t c =
+    λ w start a b hk he s gr.
+    (took_asked (world c.args.self.now) (facts c.args.self.now.sources) g.R.TableRow.table_of g.R.RowRef.shown (values_in c.args.slots.now) c.args.pipe.now (λ w. Covers (world c.args.self.now) (values_in c.args.slots.now) c.args.pipe.now w × (is_covered (world c.args.self.now) w c.args.key.now.body.now ≡ true) × (is_covered (world c.args.self.now) w c.args.element.now.body.now ≡ true)) (λ w p. p.0) _ _ _ c.loop-pulled.base c.pull.new.self (pulled_value c.in-Ok.pulled) c.loop-pulled.invariant.log (subst (λ r. IfOk r (λ p. kept_stream g.R.TableRow.table_of g.R.RowRef.shown c.args.pipe.now.plan c.loop-pulled.base ≡ in_front (pulled_value p) (kept_stream g.R.TableRow.table_of g.R.RowRef.shown c.args.pipe.now.plan c.pull.new.self))) c.in-Ok.is c.pull.ensures.item)
+    (λ w start p i gr. c.group_next.ensures.grows w start (pipe_covered (world c.args.self.now) (values_in c.args.slots.now) c.args.pipe.now w p.0) p.1 p.2 i gr)).grows w start (covers_pipe (world c.args.self.now) (values_in c.args.slots.now) c.args.pipe.now w a b s, hk, he) gr
 
 pub group_by-returns-in_err-grouping-clause-grows : goal.group_by-returns-in_err-grouping-clause-grows
 group_by-returns-in_err-grouping-clause-grows g t c =
@@ -267,11 +231,6 @@ pub group_by-returns-clause-meant : goal.group_by-returns-clause-meant
 group_by-returns-clause-meant g t c =
     group_by_stops (world c.args.self.now) (values_in c.args.slots.now) c.args.source.now c.args.key.now c.args.element.now _ c.lambda-element.result.body c.lambda-key.ensures.body c.lambda-element.ensures.body c.in_ok-grouping.grouping c.in_ok-grouping.end _ _
     (subst (λ s. AreGrouped c.in_ok-grouping.grouping c.in_ok-grouping.end (keys_and_elements (world c.args.self.now) (values_in c.args.slots.now) c.lambda-key.result.body.now (Some c.lambda-element.result.body) s)) c.in_ok-pipe.ensures.items c.in_ok-grouping.ensures.meant) c.in-Fault.is c.fault_sequence.ensures
-
-pub key_and_element-returns-in-Ok-2-clause-grows : goal.key_and_element-returns-in-Ok-2-clause-grows
-key_and_element-returns-in-Ok-2-clause-grows g t c =
-    λ w start hk he s i gr.
-    c.value_by-in-Ok.ensures.grows w start he s i (c.value_by.ensures.grows w start hk s i gr)
 
 pub key_pairs-loop-pairs-init : goal.key_pairs-loop-pairs-init
 key_pairs-loop-pairs-init g t c =
@@ -327,70 +286,98 @@ join_item-returns-in_err-key-clause-grows g t c =
     λ w start h m s i gr.
     c.value_by.ensures.grows w start (covered_as (world c.args.self.now) w _ _ c.requires.outer (join_outer_key (world c.args.self.now) w c.args.joined.now h)) s i gr
 
-pub join_item-returns-in_err-inner-in-Ok-clause-grows : goal.join_item-returns-in_err-inner-in-Ok-clause-grows
-join_item-returns-in_err-inner-in-Ok-clause-grows g t c =
-    λ w start h m s i gr.
-    c.value_by.ensures.grows w start (covered_as (world c.args.self.now) w _ _ c.requires.outer (join_outer_key (world c.args.self.now) w c.args.joined.now h)) s i gr
-
 pub join_item-returns-in-Err-clause-grows : goal.join_item-returns-in-Err-clause-grows
 join_item-returns-in-Err-clause-grows g t c =
     λ w start h m s i gr.
     c.value_by.ensures.grows w start (covered_as (world c.args.self.now) w _ _ c.requires.outer (join_outer_key (world c.args.self.now) w c.args.joined.now h)) s i gr
 
-pub join_item-returns-in_ok-inner-in-Ok-clause-grows : goal.join_item-returns-in_ok-inner-in-Ok-clause-grows
-join_item-returns-in_ok-inner-in-Ok-clause-grows g t c =
-    λ w start h m s i gr.
-    c.select_all.ensures.grows w start (join_result (world c.args.self.now) w c.args.joined.now h) (slot_more w (values_in c.args.slots.now) _ _ c.with-deeper.ensures s i)
-    (ap (have_watched_rows w) (c.as_slice.ensures ∙ c.in_ok-inner-in-Ok.ensures (world c.args.self.now)) ∙ matched_pass w (world c.args.self.now) _ _ _ m)
-    (c.value_by.ensures.grows w start (covered_as (world c.args.self.now) w _ _ c.requires.outer (join_outer_key (world c.args.self.now) w c.args.joined.now h)) s i gr)
-
-pub join_item-returns-in_ok-inner-in-Ok-clause-meant : goal.join_item-returns-in_ok-inner-in-Ok-clause-meant
-join_item-returns-in_ok-inner-in-Ok-clause-meant g t c =
-    joined_met (world c.args.self.now) (values_in c.args.slots.now) c.args.joined.now (pairs_of c.args.matches.now) c.args.item.now _ _ _ _ c.select_all.result
-    (sym c.in-Ok.is ∙ c.in_ok-key.ensures.meant ∙ ap (λ f. value_of_item (world c.args.self.now) f c.args.slots.now c.args.item.now) c.requires.outer) (c.in_ok-inner-in-Ok.ensures (world c.args.self.now)) c.as_slice.ensures
-    (matched_is (world c.args.self.now) (values_in c.args.slots.now) c.args.item.now _ c.args.joined.now.result _ _ c.select_all.result c.with-deeper.ensures c.select_all.ensures.meant)
-
 pub join_item-returns-in-Err-clause-meant : goal.join_item-returns-in-Err-clause-meant
 join_item-returns-in-Err-clause-meant g t c =
-    joined_unmet (world c.args.self.now) (values_in c.args.slots.now) c.args.joined.now (pairs_of c.args.matches.now) c.args.item.now _ _ c.new.ensures
+    joined_unmet (world c.args.self.now) (values_in c.args.slots.now) c.args.joined.now (pairs_of c.args.matches.now) c.args.item.now _ _
     (sym c.in-Err.is ∙ c.in_ok-key.ensures.meant ∙ ap (λ f. value_of_item (world c.args.self.now) f c.args.slots.now c.args.item.now) c.requires.outer)
 
-pub distinct-loop-distinct-init : goal.distinct-loop-distinct-init
-distinct-loop-distinct-init g t c =
+pub join_matches-loop-place-init : goal.join_matches-loop-place-init
+join_matches-loop-place-init g t c =
     record {
-      meant = firsts_begin _ _ _ c.in_ok-distinct.ensures (left_opened (world c.args.self.now) (values_in c.args.slots.now) _ _ c.in_ok-base.base c.in_ok-base.ensures.meant);
-      log = opened (world c.args.self.now) (facts c.args.self.now.sources) g.R.TableRow.table_of g.R.RowRef.shown (values_in c.args.slots.now) c.args.pipe.now (Covers (world c.args.self.now) (values_in c.args.slots.now) c.args.pipe.now) _ _ c.in_ok-base.base (λ w start p gr. c.open.ensures.grows w start p.source_in p.slots_in gr) (λ w p. c.in_ok-base.ensures.from w p.source_in p.slots_in);
+      meant = ap (λ l. then_ending c.args.values.now end.Done (select_by (value_of_item (world c.args.self.now) c.args.body.now c.args.slots.now) l end.Done)) c.in_ok-places.ensures;
+      grows = λ w start h m s gr. gr;
     }
 
-pub distinct-returns-in_err-item-clause-grows : goal.distinct-returns-in_err-item-clause-grows
-distinct-returns-in_err-item-clause-grows g t c =
-    λ w start a b s gr.
-    (went_on (world c.args.self.now) (facts c.args.self.now.sources) g.R.TableRow.table_of g.R.RowRef.shown (values_in c.args.slots.now) c.args.pipe.now (Covers (world c.args.self.now) (values_in c.args.slots.now) c.args.pipe.now) (λ w p. p) _ _ _ c.loop-distinct.base c.next.new.base c.loop-distinct.invariant.log c.next.ensures.pulled).grows w start (covers_pipe (world c.args.self.now) (values_in c.args.slots.now) c.args.pipe.now w a b s) gr
+pub join_matches-returns-clause-meant : goal.join_matches-returns-clause-meant
+join_matches-returns-clause-meant g t c =
+    given_ended c.args.matches.now c.args.key.now (value_of_item (world c.args.self.now) c.args.body.now c.args.slots.now) _ _ c.loop-place.values _ c.loop-place-test.false c.loop-place.invariant.meant
 
-pub distinct-returns-in_err-add-in-Ok-clause-grows : goal.distinct-returns-in_err-add-in-Ok-clause-grows
-distinct-returns-in_err-add-in-Ok-clause-grows g t c =
-    λ w start a b s gr.
-    (went_on (world c.args.self.now) (facts c.args.self.now.sources) g.R.TableRow.table_of g.R.RowRef.shown (values_in c.args.slots.now) c.args.pipe.now (Covers (world c.args.self.now) (values_in c.args.slots.now) c.args.pipe.now) (λ w p. p) _ _ _ c.loop-distinct.base c.next.new.base c.loop-distinct.invariant.log c.next.ensures.pulled).grows w start (covers_pipe (world c.args.self.now) (values_in c.args.slots.now) c.args.pipe.now w a b s) gr
+pub join_matches-returns-clause-grows : goal.join_matches-returns-clause-grows
+join_matches-returns-clause-grows g t c =
+    λ w start h m s gr.
+    c.loop-place.invariant.grows w start h m s gr
+
+pub join_group-returns-clause-meant : goal.join_group-returns-clause-meant
+join_group-returns-clause-meant g t c =
+    met_group c.args.matches.now c.args.key.now (value_of_item (world c.args.self.now) c.args.body.now c.args.slots.now) c.args.values.now (world c.args.self.now) c.in_ok-items.items _ c.push_met.new.values _ c.push_met.result
+    c.in_ok-items.ensures c.in_ok-met.ensures.meant c.push_met.ensures
+
+pub join_group-returns-clause-grows : goal.join_group-returns-clause-grows
+join_group-returns-clause-grows g t c =
+    λ w start h m s gr.
+    c.value_of_item.ensures.grows w start h s (group_passes w (world c.args.self.now) c.args.key.now (pairs_of c.args.matches.now) c.in_ok-items.items c.in_ok-items.ensures m) gr
+
+pub join_group-returns-in_err-met-clause-grows : goal.join_group-returns-in_err-met-clause-grows
+join_group-returns-in_err-met-clause-grows g t c =
+    λ w start h m s gr.
+    c.value_of_item.ensures.grows w start h s (group_passes w (world c.args.self.now) c.args.key.now (pairs_of c.args.matches.now) c.in_ok-items.items c.in_ok-items.ensures m) gr
+
+pub join_items-returns-in-Fault-clause-meant : goal.join_items-returns-in-Fault-clause-meant
+join_items-returns-in-Fault-clause-meant g t c =
+    behind_stopped (item_join (world c.args.self.now) (values_in c.args.slots.now) c.args.joined.now (pairs_of c.args.matches.now)) (items_left (world c.args.self.now) (values_in c.args.slots.now) c.args.pipe.now c.loop-values.base) (items_left (world c.args.self.now) (values_in c.args.slots.now) c.args.pipe.now c.next.new.base) c.in-Ok.item _ c.loop-values.values _ _ _ (subst (λ s. Steps (items_left (world c.args.self.now) (values_in c.args.slots.now) c.args.pipe.now c.loop-values.base) s (items_left (world c.args.self.now) (values_in c.args.slots.now) c.args.pipe.now c.next.new.base)) c.in-Ok.is c.in_ok-item.ensures.meant)
+    c.in_ok-ending-in-Ok.ensures.meant c.in-Fault.is c.loop-values.invariant.meant
 
 pub distinct-returns-in-Err-clause-grows : goal.distinct-returns-in-Err-clause-grows
 distinct-returns-in-Err-clause-grows g t c =
     λ w start a b s gr.
-    (went_on (world c.args.self.now) (facts c.args.self.now.sources) g.R.TableRow.table_of g.R.RowRef.shown (values_in c.args.slots.now) c.args.pipe.now (Covers (world c.args.self.now) (values_in c.args.slots.now) c.args.pipe.now) (λ w p. p) _ _ _ c.loop-distinct.base c.next.new.base c.loop-distinct.invariant.log c.next.ensures.pulled).grows w start (covers_pipe (world c.args.self.now) (values_in c.args.slots.now) c.args.pipe.now w a b s) gr
+    c.loop-pulled.invariant.log.grows w start (covers_pipe (world c.args.self.now) (values_in c.args.slots.now) c.args.pipe.now w a b s) gr
 
-pub distinct-loop-distinct-preserved : goal.distinct-loop-distinct-preserved
-distinct-loop-distinct-preserved g t c =
+pub grouped-loop-pulled-init : goal.grouped-loop-pulled-init
+grouped-loop-pulled-init g t c =
     record {
-      meant = firsts_on (items_left (world c.args.self.now) (values_in c.args.slots.now) c.args.pipe.now c.loop-distinct.base) (items_left (world c.args.self.now) (values_in c.args.slots.now) c.args.pipe.now c.next.new.base) _ c.in-Ok.item (firsts_in c.loop-distinct.distinct) _ (subst (λ s. Steps (items_left (world c.args.self.now) (values_in c.args.slots.now) c.args.pipe.now c.loop-distinct.base) s (items_left (world c.args.self.now) (values_in c.args.slots.now) c.args.pipe.now c.next.new.base)) c.in-Ok.is c.in_ok-item.ensures.meant) c.in_ok-add-in-Ok.ensures c.loop-distinct.invariant.meant;
-      log = (went_on (world c.args.self.now) (facts c.args.self.now.sources) g.R.TableRow.table_of g.R.RowRef.shown (values_in c.args.slots.now) c.args.pipe.now (Covers (world c.args.self.now) (values_in c.args.slots.now) c.args.pipe.now) (λ w p. p) _ _ _ c.loop-distinct.base c.next.new.base c.loop-distinct.invariant.log c.next.ensures.pulled);
+      meant = gathered_begins (groups_of same_values) _ _ _ c.in_ok-grouping.ensures (pairs_as (world c.args.self.now) (values_in c.args.slots.now) c.args.key.now.body.now c.args.element.now.body _ _ (left_opened (world c.args.self.now) (values_in c.args.slots.now) _ _ c.in_ok-base.base c.in_ok-base.ensures.meant));
+      log = opened (world c.args.self.now) (facts c.args.self.now.sources) g.R.TableRow.table_of g.R.RowRef.shown (values_in c.args.slots.now) c.args.pipe.now (λ w. Covers (world c.args.self.now) (values_in c.args.slots.now) c.args.pipe.now w × (is_covered (world c.args.self.now) w c.args.key.now.body.now ≡ true) × (is_covered (world c.args.self.now) w c.args.element.now.body.now ≡ true)) _ _ c.in_ok-base.base (λ w start p gr. c.open.ensures.grows w start p.0.source_in p.0.slots_in gr) (λ w p. c.in_ok-base.ensures.from w p.0.source_in p.0.slots_in);
     }
 
-pub distinct-loop-distinct-smaller : goal.distinct-loop-distinct-smaller
-distinct-loop-distinct-smaller g t c =
-    fewer (items_left (world c.args.self.now) (values_in c.args.slots.now) c.args.pipe.now c.loop-distinct.base) (items_left (world c.args.self.now) (values_in c.args.slots.now) c.args.pipe.now c.next.new.base) c.in-Ok.item (subst (λ s. Steps (items_left (world c.args.self.now) (values_in c.args.slots.now) c.args.pipe.now c.loop-distinct.base) s (items_left (world c.args.self.now) (values_in c.args.slots.now) c.args.pipe.now c.next.new.base)) c.in-Ok.is c.in_ok-item.ensures.meant)
+pub grouped-loop-pulled-preserved : goal.grouped-loop-pulled-preserved
+grouped-loop-pulled-preserved g t c =
+    record {
+      meant = gathered_on (groups_of same_values) (keys_and_elements (world c.args.self.now) (values_in c.args.slots.now) c.args.key.now.body.now (Some c.args.element.now.body) (items_left (world c.args.self.now) (values_in c.args.slots.now) c.args.pipe.now c.loop-pulled.base)) (keys_and_elements (world c.args.self.now) (values_in c.args.slots.now) c.args.key.now.body.now (Some c.args.element.now.body) (comes g.R.TableRow.table_of g.R.RowRef.shown (world c.args.self.now) (values_in c.args.slots.now) c.args.pipe.now (pulled_value c.in-Ok.pulled))) (keys_and_elements (world c.args.self.now) (values_in c.args.slots.now) c.args.key.now.body.now (Some c.args.element.now.body) (items_left (world c.args.self.now) (values_in c.args.slots.now) c.args.pipe.now c.pull.new.self)) _ (groups_in c.loop-pulled.grouping) (groups_in c.group_next.new.grouping) (pairs_then (world c.args.self.now) (values_in c.args.slots.now) c.args.key.now.body.now c.args.element.now.body (items_left (world c.args.self.now) (values_in c.args.slots.now) c.args.pipe.now c.loop-pulled.base) (comes g.R.TableRow.table_of g.R.RowRef.shown (world c.args.self.now) (values_in c.args.slots.now) c.args.pipe.now (pulled_value c.in-Ok.pulled)) (items_left (world c.args.self.now) (values_in c.args.slots.now) c.args.pipe.now c.pull.new.self) (pulled g.R.TableRow.table_of g.R.RowRef.shown (world c.args.self.now) (values_in c.args.slots.now) c.args.pipe.now c.loop-pulled.base c.pull.new.self (pulled_value c.in-Ok.pulled) c.requires.planned (subst (λ r. IfOk r (λ p. kept_stream g.R.TableRow.table_of g.R.RowRef.shown c.args.pipe.now.plan c.loop-pulled.base ≡ in_front (pulled_value p) (kept_stream g.R.TableRow.table_of g.R.RowRef.shown c.args.pipe.now.plan c.pull.new.self))) c.in-Ok.is c.pull.ensures.item)))
+          (subst (λ e. AddsPairs (groups_in c.loop-pulled.grouping) (groups_in c.group_next.new.grouping) (keys_and_elements (world c.args.self.now) (values_in c.args.slots.now) c.args.key.now.body.now (Some c.args.element.now.body) (comes g.R.TableRow.table_of g.R.RowRef.shown (world c.args.self.now) (values_in c.args.slots.now) c.args.pipe.now (pulled_value c.in-Ok.pulled))) e) c.in-Done.is c.in_ok-group_next-in-Ok.ensures.meant) c.loop-pulled.invariant.meant;
+      log = (took_asked (world c.args.self.now) (facts c.args.self.now.sources) g.R.TableRow.table_of g.R.RowRef.shown (values_in c.args.slots.now) c.args.pipe.now (λ w. Covers (world c.args.self.now) (values_in c.args.slots.now) c.args.pipe.now w × (is_covered (world c.args.self.now) w c.args.key.now.body.now ≡ true) × (is_covered (world c.args.self.now) w c.args.element.now.body.now ≡ true)) (λ w p. p.0) _ _ _ c.loop-pulled.base c.pull.new.self (pulled_value c.in-Ok.pulled) c.loop-pulled.invariant.log (subst (λ r. IfOk r (λ p. kept_stream g.R.TableRow.table_of g.R.RowRef.shown c.args.pipe.now.plan c.loop-pulled.base ≡ in_front (pulled_value p) (kept_stream g.R.TableRow.table_of g.R.RowRef.shown c.args.pipe.now.plan c.pull.new.self))) c.in-Ok.is c.pull.ensures.item)
+          (λ w start p i gr. c.group_next.ensures.grows w start (pipe_covered (world c.args.self.now) (values_in c.args.slots.now) c.args.pipe.now w p.0) p.1 p.2 i gr));
+    }
+
+pub grouped-loop-pulled-smaller : goal.grouped-loop-pulled-smaller
+grouped-loop-pulled-smaller g t c =
+    fewer (kept_stream g.R.TableRow.table_of g.R.RowRef.shown c.args.pipe.now.plan c.loop-pulled.base) (kept_stream g.R.TableRow.table_of g.R.RowRef.shown c.args.pipe.now.plan c.pull.new.self) (pulled_value c.in-Ok.pulled) (subst (λ r. IfOk r (λ p. kept_stream g.R.TableRow.table_of g.R.RowRef.shown c.args.pipe.now.plan c.loop-pulled.base ≡ in_front (pulled_value p) (kept_stream g.R.TableRow.table_of g.R.RowRef.shown c.args.pipe.now.plan c.pull.new.self))) c.in-Ok.is c.pull.ensures.item)
+
+pub grouped-returns-in-Fault-clause-meant : goal.grouped-returns-in-Fault-clause-meant
+grouped-returns-in-Fault-clause-meant g t c =
+    gathered_stopped (groups_of same_values) (keys_and_elements (world c.args.self.now) (values_in c.args.slots.now) c.args.key.now.body.now (Some c.args.element.now.body) (items_left (world c.args.self.now) (values_in c.args.slots.now) c.args.pipe.now c.loop-pulled.base)) (keys_and_elements (world c.args.self.now) (values_in c.args.slots.now) c.args.key.now.body.now (Some c.args.element.now.body) (comes g.R.TableRow.table_of g.R.RowRef.shown (world c.args.self.now) (values_in c.args.slots.now) c.args.pipe.now (pulled_value c.in-Ok.pulled))) (keys_and_elements (world c.args.self.now) (values_in c.args.slots.now) c.args.key.now.body.now (Some c.args.element.now.body) (items_left (world c.args.self.now) (values_in c.args.slots.now) c.args.pipe.now c.pull.new.self)) _ (groups_in c.loop-pulled.grouping) (groups_in c.group_next.new.grouping) c.in-Fault.fault (pairs_then (world c.args.self.now) (values_in c.args.slots.now) c.args.key.now.body.now c.args.element.now.body (items_left (world c.args.self.now) (values_in c.args.slots.now) c.args.pipe.now c.loop-pulled.base) (comes g.R.TableRow.table_of g.R.RowRef.shown (world c.args.self.now) (values_in c.args.slots.now) c.args.pipe.now (pulled_value c.in-Ok.pulled)) (items_left (world c.args.self.now) (values_in c.args.slots.now) c.args.pipe.now c.pull.new.self) (pulled g.R.TableRow.table_of g.R.RowRef.shown (world c.args.self.now) (values_in c.args.slots.now) c.args.pipe.now c.loop-pulled.base c.pull.new.self (pulled_value c.in-Ok.pulled) c.requires.planned (subst (λ r. IfOk r (λ p. kept_stream g.R.TableRow.table_of g.R.RowRef.shown c.args.pipe.now.plan c.loop-pulled.base ≡ in_front (pulled_value p) (kept_stream g.R.TableRow.table_of g.R.RowRef.shown c.args.pipe.now.plan c.pull.new.self))) c.in-Ok.is c.pull.ensures.item)))
+    (subst (λ e. AddsPairs (groups_in c.loop-pulled.grouping) (groups_in c.group_next.new.grouping) (keys_and_elements (world c.args.self.now) (values_in c.args.slots.now) c.args.key.now.body.now (Some c.args.element.now.body) (comes g.R.TableRow.table_of g.R.RowRef.shown (world c.args.self.now) (values_in c.args.slots.now) c.args.pipe.now (pulled_value c.in-Ok.pulled))) e) c.in-Fault.is c.in_ok-group_next-in-Ok.ensures.meant) c.loop-pulled.invariant.meant
 
 pub distinct-returns-in-Err-clause-meant : goal.distinct-returns-in-Err-clause-meant
 distinct-returns-in-Err-clause-meant g t c =
-    ap (λ s. Ok (sequence s)) (sym (firsts_ended (items_left (world c.args.self.now) (values_in c.args.slots.now) c.args.pipe.now c.loop-distinct.base) _ c.in-Err.end (firsts_in c.loop-distinct.distinct) _ (subst (λ s. Steps (items_left (world c.args.self.now) (values_in c.args.slots.now) c.args.pipe.now c.loop-distinct.base) s (items_left (world c.args.self.now) (values_in c.args.slots.now) c.args.pipe.now c.next.new.base)) c.in-Err.is c.in_ok-item.ensures.meant) c.into_items.ensures c.loop-distinct.invariant.meant))
+    firsts_answered (firsts_in c.loop-pulled.firsts) _ c.in-Err.end _ c.into_items-in-Err.ensures
+    (gathered_ended (first_keys same_values) (items_left (world c.args.self.now) (values_in c.args.slots.now) c.args.pipe.now c.loop-pulled.base) _ (firsts_in c.loop-pulled.firsts) c.in-Err.end (next_ended g.R.TableRow.table_of g.R.RowRef.shown (world c.args.self.now) (values_in c.args.slots.now) c.args.pipe.now c.loop-pulled.base c.loop-pulled.base c.in-Err.end c.requires refl (subst (λ r. IfErr r (λ e. kept_stream g.R.TableRow.table_of g.R.RowRef.shown c.args.pipe.now.plan c.loop-pulled.base ≡ ([], e))) c.in-Err.is c.pull.ensures.end)) c.loop-pulled.invariant.meant)
+
+pub distinct-returns-in-Fault-clause-grows : goal.distinct-returns-in-Fault-clause-grows
+distinct-returns-in-Fault-clause-grows g t c =
+    λ w start a b s gr.
+    (took (world c.args.self.now) (facts c.args.self.now.sources) g.R.TableRow.table_of g.R.RowRef.shown (values_in c.args.slots.now) c.args.pipe.now (Covers (world c.args.self.now) (values_in c.args.slots.now) c.args.pipe.now) (λ w p. p) _ _ _ c.loop-pulled.base c.pull.new.self (pulled_value c.in-Ok.pulled) c.loop-pulled.invariant.log (subst (λ r. IfOk r (λ p. kept_stream g.R.TableRow.table_of g.R.RowRef.shown c.args.pipe.now.plan c.loop-pulled.base ≡ in_front (pulled_value p) (kept_stream g.R.TableRow.table_of g.R.RowRef.shown c.args.pipe.now.plan c.pull.new.self))) c.in-Ok.is c.pull.ensures.item)
+    (λ w start h i gr. c.add_next.ensures.grows w start h i gr)).grows w start (covers_pipe (world c.args.self.now) (values_in c.args.slots.now) c.args.pipe.now w a b s) gr
+
+pub distinct-returns-in_err-add_next-in-Ok-clause-grows : goal.distinct-returns-in_err-add_next-in-Ok-clause-grows
+distinct-returns-in_err-add_next-in-Ok-clause-grows g t c =
+    λ w start a b s gr.
+    (took (world c.args.self.now) (facts c.args.self.now.sources) g.R.TableRow.table_of g.R.RowRef.shown (values_in c.args.slots.now) c.args.pipe.now (Covers (world c.args.self.now) (values_in c.args.slots.now) c.args.pipe.now) (λ w p. p) _ _ _ c.loop-pulled.base c.pull.new.self (pulled_value c.in-Ok.pulled) c.loop-pulled.invariant.log (subst (λ r. IfOk r (λ p. kept_stream g.R.TableRow.table_of g.R.RowRef.shown c.args.pipe.now.plan c.loop-pulled.base ≡ in_front (pulled_value p) (kept_stream g.R.TableRow.table_of g.R.RowRef.shown c.args.pipe.now.plan c.pull.new.self))) c.in-Ok.is c.pull.ensures.item)
+    (λ w start h i gr. c.add_next.ensures.grows w start h i gr)).grows w start (covers_pipe (world c.args.self.now) (values_in c.args.slots.now) c.args.pipe.now w a b s) gr
 
 pub key_columns-returns-in_err-column-clause-meant : goal.key_columns-returns-in_err-column-clause-meant
 key_columns-returns-in_err-column-clause-meant g t c =
@@ -416,20 +403,6 @@ expand_item-returns-clause-meant g t c =
 
 pub sequence-returns-clause-meant : goal.sequence-returns-clause-meant
 sequence-returns-clause-meant g t c = ap (λ s. Ok (sequence s)) (sym (c.in_ok-items.ensures.meant ∙ c.in_ok-pipe.ensures.items))
-
-pub simple-returns-in_ok-pipe-in-Some-clause-meant : goal.simple-returns-in_ok-pipe-in-Some-clause-meant
-simple-returns-in_ok-pipe-in-Some-clause-meant g t c =
-    subst (λ s. IsAnswer (simple_meaning c.args.method c.args.of.now s) c.simple_items.result)
-    (c.in_ok-pipe-in-Some.ensures.items ∙ stage_items (world c.args.self.now) (values_in c.args.slots.now) c.in-Some.stage c.args.source.now c.in-Some.source.now c.in-Some.ensures.stage) c.simple_items.ensures.meant
-
-pub simple_items-returns-in_ok-items-in-None-clause-meant : goal.simple_items-returns-in_ok-items-in-None-clause-meant
-simple_items-returns-in_ok-items-in-None-clause-meant g t c =
-    subst (λ m. IsAnswer m c.simple.result) (simple_read c.args.method _ c.args.of.now _ _ c.simple_limit.ensures c.in_ok-items-in-None.ensures.meant) c.simple.ensures
-
-pub given-returns-clause-meant : goal.given-returns-clause-meant
-given-returns-clause-meant g t c =
-    given_answer (world c.args.self.now) c.args.method c.args.source.now c.args.argument.now (values_in c.args.slots.now) _ _ c.given_items.result (c.in_ok-argument.ensures _ c.evaluate.ensures.meant) c.in_ok-pipe.ensures.items
-    c.given_items.ensures.meant
 
 pub all-returns-clause-meant : goal.all-returns-clause-meant
 all-returns-clause-meant g t c =
@@ -474,14 +447,6 @@ pub join-returns-in-Fault-clause-meant : goal.join-returns-in-Fault-clause-meant
 join-returns-in-Fault-clause-meant g t c =
     join_stops (world c.args.self.now) (values_in c.args.slots.now) c.args.source.now c.args.joined.now _ _ _ _ _ refl c.in_ok-pairs.ensures.meant c.in-Fault.is c.fault_sequence.ensures
 
-pub given_items-returns-in_ok-items-in_default-clause-meant : goal.given_items-returns-in_ok-items-in_default-clause-meant
-given_items-returns-in_ok-items-in_default-clause-meant g t c =
-    subst (λ m. IsAnswer m c.given.result) (given_read (world c.args.self.now) c.args.method c.args.argument _ _ _ c.given_limit.ensures c.in_ok-items-in_default.ensures.meant) (c.given.ensures (world c.args.self.now) refl)
-
-pub simple-returns-in_ok-pipe-in-None-clause-meant : goal.simple-returns-in_ok-pipe-in-None-clause-meant
-simple-returns-in_ok-pipe-in-None-clause-meant g t c =
-    subst (λ s. IsAnswer (simple_meaning c.args.method c.args.of.now s) c.simple_items-in-None.result) c.in_ok-pipe-in-None.ensures.items c.simple_items-in-None.ensures.meant
-
 pub next-returns-in-Ok-Row-clause-meant : goal.next-returns-in-Ok-Row-clause-meant
 next-returns-in-Ok-Row-clause-meant g t c =
     next_given g.R.TableRow.table_of g.R.RowRef.shown (world c.args.self.now) (values_in c.args.slots.now) c.args.pipe.now c.args.base.now c.loop-row.base c.pull.new.self (value.Row c.in-Ok-Row.row) c.pass_row.result c.requires c.loop-row.invariant.meant
@@ -519,7 +484,7 @@ next-returns-in-Item-clause-pulled g t c =
     pulled_more (world c.args.self.now) (facts c.args.self.now.sources) (λ w. is_covered_pipe (world c.args.self.now) w (values_in c.args.slots.now) c.args.pipe.now) _ (kept_stream g.R.TableRow.table_of g.R.RowRef.shown c.args.pipe.now.plan c.loop-row.base) (kept_stream g.R.TableRow.table_of g.R.RowRef.shown c.args.pipe.now.plan c.pull.new.self) _ _ _ c.in-Ok-Item.item
     c.loop-row.invariant.pulled
     (subst (λ r. IfOk r (λ p. (kept_stream g.R.TableRow.table_of g.R.RowRef.shown c.args.pipe.now.plan c.loop-row.base) ≡ in_front (pulled_value p) (kept_stream g.R.TableRow.table_of g.R.RowRef.shown c.args.pipe.now.plan c.pull.new.self))) (c.in-Ok-Item.is ∙ ap (λ p. Ok p) c.in-Ok-Item.field-0-is) c.pull.ensures.item)
-    (λ w start h i gr. c.pass_through.ensures.grows w start (stage_covered g.R.TableRow.table_of g.R.RowRef.shown (world c.args.self.now) w (values_in c.args.slots.now) c.args.pipe.now h) (source_covered g.R.TableRow.table_of g.R.RowRef.shown (world c.args.self.now) w (values_in c.args.slots.now) c.args.pipe.now h) (slots_pass g.R.TableRow.table_of g.R.RowRef.shown (world c.args.self.now) w (values_in c.args.slots.now) c.args.pipe.now h) i gr)
+    (λ w start h i gr. c.pass_item.ensures.grows w start (stage_covered g.R.TableRow.table_of g.R.RowRef.shown (world c.args.self.now) w (values_in c.args.slots.now) c.args.pipe.now h) (source_covered g.R.TableRow.table_of g.R.RowRef.shown (world c.args.self.now) w (values_in c.args.slots.now) c.args.pipe.now h) (slots_pass g.R.TableRow.table_of g.R.RowRef.shown (world c.args.self.now) w (values_in c.args.slots.now) c.args.pipe.now h) i gr)
 
 pub next-returns-in-Item-clause-hands : goal.next-returns-in-Item-clause-hands
 next-returns-in-Item-clause-hands g t c =
@@ -547,7 +512,7 @@ next-returns-in-Fault-clause-pulled g t c =
     pulled_more (world c.args.self.now) (facts c.args.self.now.sources) (λ w. is_covered_pipe (world c.args.self.now) w (values_in c.args.slots.now) c.args.pipe.now) _ (kept_stream g.R.TableRow.table_of g.R.RowRef.shown c.args.pipe.now.plan c.loop-row.base) (kept_stream g.R.TableRow.table_of g.R.RowRef.shown c.args.pipe.now.plan c.pull.new.self) _ _ _ c.in-Ok-Item.item
     c.loop-row.invariant.pulled
     (subst (λ r. IfOk r (λ p. (kept_stream g.R.TableRow.table_of g.R.RowRef.shown c.args.pipe.now.plan c.loop-row.base) ≡ in_front (pulled_value p) (kept_stream g.R.TableRow.table_of g.R.RowRef.shown c.args.pipe.now.plan c.pull.new.self))) (c.in-Ok-Item.is ∙ ap (λ p. Ok p) c.in-Ok-Item.field-0-is) c.pull.ensures.item)
-    (λ w start h i gr. c.pass_through.ensures.grows w start (stage_covered g.R.TableRow.table_of g.R.RowRef.shown (world c.args.self.now) w (values_in c.args.slots.now) c.args.pipe.now h) (source_covered g.R.TableRow.table_of g.R.RowRef.shown (world c.args.self.now) w (values_in c.args.slots.now) c.args.pipe.now h) (slots_pass g.R.TableRow.table_of g.R.RowRef.shown (world c.args.self.now) w (values_in c.args.slots.now) c.args.pipe.now h) i gr)
+    (λ w start h i gr. c.pass_item.ensures.grows w start (stage_covered g.R.TableRow.table_of g.R.RowRef.shown (world c.args.self.now) w (values_in c.args.slots.now) c.args.pipe.now h) (source_covered g.R.TableRow.table_of g.R.RowRef.shown (world c.args.self.now) w (values_in c.args.slots.now) c.args.pipe.now h) (slots_pass g.R.TableRow.table_of g.R.RowRef.shown (world c.args.self.now) w (values_in c.args.slots.now) c.args.pipe.now h) i gr)
 
 pub next-returns-in-Fault-clause-hands : goal.next-returns-in-Fault-clause-hands
 next-returns-in-Fault-clause-hands g t c =
@@ -569,7 +534,7 @@ next-returns-in_err-item-in-Ok-Item-clause-pulled g t c =
     pulled_more (world c.args.self.now) (facts c.args.self.now.sources) (λ w. is_covered_pipe (world c.args.self.now) w (values_in c.args.slots.now) c.args.pipe.now) _ (kept_stream g.R.TableRow.table_of g.R.RowRef.shown c.args.pipe.now.plan c.loop-row.base) (kept_stream g.R.TableRow.table_of g.R.RowRef.shown c.args.pipe.now.plan c.pull.new.self) _ _ _ c.in-Ok-Item.item
     c.loop-row.invariant.pulled
     (subst (λ r. IfOk r (λ p. (kept_stream g.R.TableRow.table_of g.R.RowRef.shown c.args.pipe.now.plan c.loop-row.base) ≡ in_front (pulled_value p) (kept_stream g.R.TableRow.table_of g.R.RowRef.shown c.args.pipe.now.plan c.pull.new.self))) (c.in-Ok-Item.is ∙ ap (λ p. Ok p) c.in-Ok-Item.field-0-is) c.pull.ensures.item)
-    (λ w start h i gr. c.pass_through.ensures.grows w start (stage_covered g.R.TableRow.table_of g.R.RowRef.shown (world c.args.self.now) w (values_in c.args.slots.now) c.args.pipe.now h) (source_covered g.R.TableRow.table_of g.R.RowRef.shown (world c.args.self.now) w (values_in c.args.slots.now) c.args.pipe.now h) (slots_pass g.R.TableRow.table_of g.R.RowRef.shown (world c.args.self.now) w (values_in c.args.slots.now) c.args.pipe.now h) i gr)
+    (λ w start h i gr. c.pass_item.ensures.grows w start (stage_covered g.R.TableRow.table_of g.R.RowRef.shown (world c.args.self.now) w (values_in c.args.slots.now) c.args.pipe.now h) (source_covered g.R.TableRow.table_of g.R.RowRef.shown (world c.args.self.now) w (values_in c.args.slots.now) c.args.pipe.now h) (slots_pass g.R.TableRow.table_of g.R.RowRef.shown (world c.args.self.now) w (values_in c.args.slots.now) c.args.pipe.now h) i gr)
 
 pub next-returns-in_err-item-in-Ok-Item-clause-within : goal.next-returns-in_err-item-in-Ok-Item-clause-within
 next-returns-in_err-item-in-Ok-Item-clause-within g t c =
@@ -623,28 +588,12 @@ next-loop-row-preserved g t c =
       pulled = pulled_more (world c.args.self.now) (facts c.args.self.now.sources) (λ w. is_covered_pipe (world c.args.self.now) w (values_in c.args.slots.now) c.args.pipe.now) _ (kept_stream g.R.TableRow.table_of g.R.RowRef.shown c.args.pipe.now.plan c.loop-row.base) (kept_stream g.R.TableRow.table_of g.R.RowRef.shown c.args.pipe.now.plan c.pull.new.self) _ _ _ c.in-Ok-Item.item
           c.loop-row.invariant.pulled
           (subst (λ r. IfOk r (λ p. (kept_stream g.R.TableRow.table_of g.R.RowRef.shown c.args.pipe.now.plan c.loop-row.base) ≡ in_front (pulled_value p) (kept_stream g.R.TableRow.table_of g.R.RowRef.shown c.args.pipe.now.plan c.pull.new.self))) (c.in-Ok-Item.is ∙ ap (λ p. Ok p) c.in-Ok-Item.field-0-is) c.pull.ensures.item)
-          (λ w start h i gr. c.pass_through.ensures.grows w start (stage_covered g.R.TableRow.table_of g.R.RowRef.shown (world c.args.self.now) w (values_in c.args.slots.now) c.args.pipe.now h) (source_covered g.R.TableRow.table_of g.R.RowRef.shown (world c.args.self.now) w (values_in c.args.slots.now) c.args.pipe.now h) (slots_pass g.R.TableRow.table_of g.R.RowRef.shown (world c.args.self.now) w (values_in c.args.slots.now) c.args.pipe.now h) i gr);
+          (λ w start h i gr. c.pass_item.ensures.grows w start (stage_covered g.R.TableRow.table_of g.R.RowRef.shown (world c.args.self.now) w (values_in c.args.slots.now) c.args.pipe.now h) (source_covered g.R.TableRow.table_of g.R.RowRef.shown (world c.args.self.now) w (values_in c.args.slots.now) c.args.pipe.now h) (slots_pass g.R.TableRow.table_of g.R.RowRef.shown (world c.args.self.now) w (values_in c.args.slots.now) c.args.pipe.now h) i gr);
       passes = passes_dropped g.R.TableRow.table_of g.R.RowRef.shown (world c.args.self.now) (values_in c.args.slots.now) c.args.pipe.now c.requires (rows_to_come c.args.base.now) (handed_out c.args.base.now) (rows_to_come c.loop-row.base) (handed_out c.loop-row.base) (rows_to_come c.pull.new.self) (handed_out c.pull.new.self) c.loop-row.invariant.passes
           (of_pulled.Item c.in-Ok-Item.item) (subst (λ r. HandsOut g.R.TableRow.table_of g.R.RowRef.shown c.args.pipe.now.plan (rows_to_come c.loop-row.base) (handed_out c.loop-row.base) r (rows_to_come c.pull.new.self) (handed_out c.pull.new.self)) (c.in-Ok-Item.is ∙ ap (λ p. Ok p) c.in-Ok-Item.field-0-is) c.pull.ensures.hands)
           (subst (λ o. outcome_stream o ≡ comes g.R.TableRow.table_of g.R.RowRef.shown (world c.args.self.now) (values_in c.args.slots.now) c.args.pipe.now c.in-Ok-Item.item) c.in-Dropped.is c.in_ok-item-in-Ok-Item.ensures.meant);
       alone = λ none. c.pull.ensures.alone (c.loop-row.invariant.alone none);
     }
-
-pub pass_row-returns-in-None-clause-grows : goal.pass_row-returns-in-None-clause-grows
-pass_row-returns-in-None-clause-grows g t c =
-    λ w start h s i gr.
-    c.give.ensures.grows w start (subst (λ st. is_covered_stage (world c.args.self.now) w st ≡ true) c.in-Select.is h) s (passing_row w (value.Row c.args.row) c.args.row refl i) gr
-
-pub tally_item-returns-in-Select-clause-grows : goal.tally_item-returns-in-Select-clause-grows
-tally_item-returns-in-Select-clause-grows g t c =
-    λ w start h s i gr.
-    c.tally_select.ensures.grows w start (subst (λ st. is_covered_stage (world c.args.self.now) w st ≡ true) c.in-Select.is h) s i gr
-
-pub tally_row-returns-in-None-clause-grows : goal.tally_row-returns-in-None-clause-grows
-tally_row-returns-in-None-clause-grows g t c =
-    λ w start h s i gr.
-    c.tally_select.ensures.grows w start (subst (λ st. is_covered_stage (world c.args.self.now) w st ≡ true) c.in-Select.is h) s
-    (passing_row w (value.Row c.again.result) c.again.result refl (ap w.row c.again.ensures ∙ i)) gr
 
 pub tally_next-returns-in-Row-clause-meant : goal.tally_next-returns-in-Row-clause-meant
 tally_next-returns-in-Row-clause-meant g t c =
@@ -656,12 +605,6 @@ tally_next-returns-in-Row-clause-grows g t c =
     λ w start h i gr.
     c.tally_row.ensures.grows w start (stage_covered g.R.TableRow.table_of g.R.RowRef.shown (world c.args.self.now) w (values_in c.args.slots.now) c.args.pipe.now h) (slots_pass g.R.TableRow.table_of g.R.RowRef.shown (world c.args.self.now) w (values_in c.args.slots.now) c.args.pipe.now h)
     (row_passes w (pulled_value c.args.pulled) c.in-Row.row (ap pulled_value c.in-Row.is) i) gr
-
-pub tally_next-returns-in-Item-clause-grows : goal.tally_next-returns-in-Item-clause-grows
-tally_next-returns-in-Item-clause-grows g t c =
-    λ w start h i gr.
-    c.tally_through.ensures.grows w start (stage_covered g.R.TableRow.table_of g.R.RowRef.shown (world c.args.self.now) w (values_in c.args.slots.now) c.args.pipe.now h) (source_covered g.R.TableRow.table_of g.R.RowRef.shown (world c.args.self.now) w (values_in c.args.slots.now) c.args.pipe.now h) (slots_pass g.R.TableRow.table_of g.R.RowRef.shown (world c.args.self.now) w (values_in c.args.slots.now) c.args.pipe.now h)
-    (ap (λ p. has_watched_rows w (pulled_value p)) (sym c.in-Item.is) ∙ i) gr
 
 pub tally_pulled-loop-pulled-init : goal.tally_pulled-loop-pulled-init
 tally_pulled-loop-pulled-init g t c =
@@ -1034,11 +977,6 @@ pass_stage-returns-in_err-holds-in-Where-clause-grows g t c =
     λ w start h s i gr.
     c.holds.ensures.grows w start (subst (λ st. is_covered_stage (world c.args.self.now) w st ≡ true) c.in-Where.is h) s i gr
 
-pub pass_stage-returns-in-Select-clause-grows : goal.pass_stage-returns-in-Select-clause-grows
-pass_stage-returns-in-Select-clause-grows g t c =
-    λ w start h s i gr.
-    c.pass_select.ensures.grows w start (subst (λ st. is_covered_stage (world c.args.self.now) w st ≡ true) c.in-Select.is h) s i gr
-
 pub read-loop-less-init : goal.read-loop-less-init
 read-loop-less-init g t c =
     record {
@@ -1386,14 +1324,8 @@ join_items-returns-in-Err-clause-grows g t c =
     λ w start h m a b s gr.
     (went_on (world c.args.self.now) (facts c.args.self.now.sources) g.R.TableRow.table_of g.R.RowRef.shown (values_in c.args.slots.now) c.args.pipe.now (λ w. Covers (world c.args.self.now) (values_in c.args.slots.now) c.args.pipe.now w × (is_covered_join (world c.args.self.now) w c.args.joined.now ≡ true) × (matches_pass w (pairs_of c.args.matches.now) ≡ true)) (λ w p. p.0) _ _ _ c.loop-values.base c.next.new.base c.loop-values.invariant.log c.next.ensures.pulled).grows w start ((covers_pipe (world c.args.self.now) (values_in c.args.slots.now) c.args.pipe.now w a b s), h, m) gr
 
-pub join_items-returns-in_err-further-in-Ok-clause-grows : goal.join_items-returns-in_err-further-in-Ok-clause-grows
-join_items-returns-in_err-further-in-Ok-clause-grows g t c =
-    λ w start h m a b s gr.
-    (asked (world c.args.self.now) (facts c.args.self.now.sources) g.R.TableRow.table_of g.R.RowRef.shown (values_in c.args.slots.now) c.args.pipe.now (λ w. Covers (world c.args.self.now) (values_in c.args.slots.now) c.args.pipe.now w × (is_covered_join (world c.args.self.now) w c.args.joined.now ≡ true) × (matches_pass w (pairs_of c.args.matches.now) ≡ true)) _ _ _ _ (went_on (world c.args.self.now) (facts c.args.self.now.sources) g.R.TableRow.table_of g.R.RowRef.shown (values_in c.args.slots.now) c.args.pipe.now (λ w. Covers (world c.args.self.now) (values_in c.args.slots.now) c.args.pipe.now w × (is_covered_join (world c.args.self.now) w c.args.joined.now ≡ true) × (matches_pass w (pairs_of c.args.matches.now) ≡ true)) (λ w p. p.0) _ _ _ c.loop-values.base c.next.new.base c.loop-values.invariant.log c.next.ensures.pulled)
-    (λ w start p gr. c.join_item.ensures.grows w start p.1 p.2 p.0.slots_in (next_passes (world c.args.self.now) (facts c.args.self.now.sources) g.R.TableRow.table_of g.R.RowRef.shown (values_in c.args.slots.now) c.args.pipe.now (λ w. Covers (world c.args.self.now) (values_in c.args.slots.now) c.args.pipe.now w × (is_covered_join (world c.args.self.now) w c.args.joined.now ≡ true) × (matches_pass w (pairs_of c.args.matches.now) ≡ true)) (λ w p. p.0) _ _ c.loop-values.base _ c.in-Ok.item (items_left (world c.args.self.now) (values_in c.args.slots.now) c.args.pipe.now c.next.new.base) c.loop-values.invariant.log c.requires c.in-Ok.is c.in_ok-item.ensures.meant w p) gr)).grows w start ((covers_pipe (world c.args.self.now) (values_in c.args.slots.now) c.args.pipe.now w a b s), h, m) gr
-
-pub join_items-returns-in_err-values-in-Ok-clause-grows : goal.join_items-returns-in_err-values-in-Ok-clause-grows
-join_items-returns-in_err-values-in-Ok-clause-grows g t c =
+pub join_items-returns-in_err-ending-in-Ok-clause-grows : goal.join_items-returns-in_err-ending-in-Ok-clause-grows
+join_items-returns-in_err-ending-in-Ok-clause-grows g t c =
     λ w start h m a b s gr.
     (asked (world c.args.self.now) (facts c.args.self.now.sources) g.R.TableRow.table_of g.R.RowRef.shown (values_in c.args.slots.now) c.args.pipe.now (λ w. Covers (world c.args.self.now) (values_in c.args.slots.now) c.args.pipe.now w × (is_covered_join (world c.args.self.now) w c.args.joined.now ≡ true) × (matches_pass w (pairs_of c.args.matches.now) ≡ true)) _ _ _ _ (went_on (world c.args.self.now) (facts c.args.self.now.sources) g.R.TableRow.table_of g.R.RowRef.shown (values_in c.args.slots.now) c.args.pipe.now (λ w. Covers (world c.args.self.now) (values_in c.args.slots.now) c.args.pipe.now w × (is_covered_join (world c.args.self.now) w c.args.joined.now ≡ true) × (matches_pass w (pairs_of c.args.matches.now) ≡ true)) (λ w p. p.0) _ _ _ c.loop-values.base c.next.new.base c.loop-values.invariant.log c.next.ensures.pulled)
     (λ w start p gr. c.join_item.ensures.grows w start p.1 p.2 p.0.slots_in (next_passes (world c.args.self.now) (facts c.args.self.now.sources) g.R.TableRow.table_of g.R.RowRef.shown (values_in c.args.slots.now) c.args.pipe.now (λ w. Covers (world c.args.self.now) (values_in c.args.slots.now) c.args.pipe.now w × (is_covered_join (world c.args.self.now) w c.args.joined.now ≡ true) × (matches_pass w (pairs_of c.args.matches.now) ≡ true)) (λ w p. p.0) _ _ c.loop-values.base _ c.in-Ok.item (items_left (world c.args.self.now) (values_in c.args.slots.now) c.args.pipe.now c.next.new.base) c.loop-values.invariant.log c.requires c.in-Ok.is c.in_ok-item.ensures.meant w p) gr)).grows w start ((covers_pipe (world c.args.self.now) (values_in c.args.slots.now) c.args.pipe.now w a b s), h, m) gr
@@ -1407,8 +1339,8 @@ join_items-returns-in-Fault-clause-grows g t c =
 pub join_items-loop-values-preserved : goal.join_items-loop-values-preserved
 join_items-loop-values-preserved g t c =
     record {
-      meant = comes_on (item_join (world c.args.self.now) (values_in c.args.slots.now) c.args.joined.now (pairs_of c.args.matches.now)) (items_left (world c.args.self.now) (values_in c.args.slots.now) c.args.pipe.now c.loop-values.base) (items_left (world c.args.self.now) (values_in c.args.slots.now) c.args.pipe.now c.next.new.base) c.in-Ok.item _ c.loop-values.values _ _ (subst (λ s. Steps (items_left (world c.args.self.now) (values_in c.args.slots.now) c.args.pipe.now c.loop-values.base) s (items_left (world c.args.self.now) (values_in c.args.slots.now) c.args.pipe.now c.next.new.base)) c.in-Ok.is c.in_ok-item.ensures.meant)
-          (sym c.in_ok-further-in-Ok.ensures.meant ∙ ap (λ e. (c.in_ok-further-in-Ok.further, e)) c.in-Done.is) c.in_ok-values-in-Ok.ensures c.loop-values.invariant.meant;
+      meant = behind_on (item_join (world c.args.self.now) (values_in c.args.slots.now) c.args.joined.now (pairs_of c.args.matches.now)) (items_left (world c.args.self.now) (values_in c.args.slots.now) c.args.pipe.now c.loop-values.base) (items_left (world c.args.self.now) (values_in c.args.slots.now) c.args.pipe.now c.next.new.base) c.in-Ok.item _ c.loop-values.values _ _ (subst (λ s. Steps (items_left (world c.args.self.now) (values_in c.args.slots.now) c.args.pipe.now c.loop-values.base) s (items_left (world c.args.self.now) (values_in c.args.slots.now) c.args.pipe.now c.next.new.base)) c.in-Ok.is c.in_ok-item.ensures.meant)
+          c.in_ok-ending-in-Ok.ensures.meant c.in-Done.is c.loop-values.invariant.meant;
       log = asked (world c.args.self.now) (facts c.args.self.now.sources) g.R.TableRow.table_of g.R.RowRef.shown (values_in c.args.slots.now) c.args.pipe.now (λ w. Covers (world c.args.self.now) (values_in c.args.slots.now) c.args.pipe.now w × (is_covered_join (world c.args.self.now) w c.args.joined.now ≡ true) × (matches_pass w (pairs_of c.args.matches.now) ≡ true)) _ _ _ _ (went_on (world c.args.self.now) (facts c.args.self.now.sources) g.R.TableRow.table_of g.R.RowRef.shown (values_in c.args.slots.now) c.args.pipe.now (λ w. Covers (world c.args.self.now) (values_in c.args.slots.now) c.args.pipe.now w × (is_covered_join (world c.args.self.now) w c.args.joined.now ≡ true) × (matches_pass w (pairs_of c.args.matches.now) ≡ true)) (λ w p. p.0) _ _ _ c.loop-values.base c.next.new.base c.loop-values.invariant.log c.next.ensures.pulled)
           (λ w start p gr. c.join_item.ensures.grows w start p.1 p.2 p.0.slots_in (next_passes (world c.args.self.now) (facts c.args.self.now.sources) g.R.TableRow.table_of g.R.RowRef.shown (values_in c.args.slots.now) c.args.pipe.now (λ w. Covers (world c.args.self.now) (values_in c.args.slots.now) c.args.pipe.now w × (is_covered_join (world c.args.self.now) w c.args.joined.now ≡ true) × (matches_pass w (pairs_of c.args.matches.now) ≡ true)) (λ w p. p.0) _ _ c.loop-values.base _ c.in-Ok.item (items_left (world c.args.self.now) (values_in c.args.slots.now) c.args.pipe.now c.next.new.base) c.loop-values.invariant.log c.requires c.in-Ok.is c.in_ok-item.ensures.meant w p) gr);
     }
@@ -1416,8 +1348,8 @@ join_items-loop-values-preserved g t c =
 pub join_items-loop-values-preserved-in-Done : goal.join_items-loop-values-preserved-in-Done
 join_items-loop-values-preserved-in-Done g t c =
     record {
-      meant = comes_on (item_join (world c.args.self.now) (values_in c.args.slots.now) c.args.joined.now (pairs_of c.args.matches.now)) (items_left (world c.args.self.now) (values_in c.args.slots.now) c.args.pipe.now c.loop-values.base) (items_left (world c.args.self.now) (values_in c.args.slots.now) c.args.pipe.now c.next.new.base) c.in-Ok.item _ c.loop-values.values _ _ (subst (λ s. Steps (items_left (world c.args.self.now) (values_in c.args.slots.now) c.args.pipe.now c.loop-values.base) s (items_left (world c.args.self.now) (values_in c.args.slots.now) c.args.pipe.now c.next.new.base)) c.in-Ok.is c.in_ok-item.ensures.meant)
-          (sym c.in_ok-further-in-Ok.ensures.meant ∙ ap (λ e. (c.in_ok-further-in-Ok.further, e)) c.in-Done.is) c.in_ok-values-in-Ok.ensures c.loop-values.invariant.meant;
+      meant = behind_on (item_join (world c.args.self.now) (values_in c.args.slots.now) c.args.joined.now (pairs_of c.args.matches.now)) (items_left (world c.args.self.now) (values_in c.args.slots.now) c.args.pipe.now c.loop-values.base) (items_left (world c.args.self.now) (values_in c.args.slots.now) c.args.pipe.now c.next.new.base) c.in-Ok.item _ c.loop-values.values _ _ (subst (λ s. Steps (items_left (world c.args.self.now) (values_in c.args.slots.now) c.args.pipe.now c.loop-values.base) s (items_left (world c.args.self.now) (values_in c.args.slots.now) c.args.pipe.now c.next.new.base)) c.in-Ok.is c.in_ok-item.ensures.meant)
+          c.in_ok-ending-in-Ok.ensures.meant c.in-Done.is c.loop-values.invariant.meant;
       log = asked (world c.args.self.now) (facts c.args.self.now.sources) g.R.TableRow.table_of g.R.RowRef.shown (values_in c.args.slots.now) c.args.pipe.now (λ w. Covers (world c.args.self.now) (values_in c.args.slots.now) c.args.pipe.now w × (is_covered_join (world c.args.self.now) w c.args.joined.now ≡ true) × (matches_pass w (pairs_of c.args.matches.now) ≡ true)) _ _ _ _ (went_on (world c.args.self.now) (facts c.args.self.now.sources) g.R.TableRow.table_of g.R.RowRef.shown (values_in c.args.slots.now) c.args.pipe.now (λ w. Covers (world c.args.self.now) (values_in c.args.slots.now) c.args.pipe.now w × (is_covered_join (world c.args.self.now) w c.args.joined.now ≡ true) × (matches_pass w (pairs_of c.args.matches.now) ≡ true)) (λ w p. p.0) _ _ _ c.loop-values.base c.next.new.base c.loop-values.invariant.log c.next.ensures.pulled)
           (λ w start p gr. c.join_item.ensures.grows w start p.1 p.2 p.0.slots_in (next_passes (world c.args.self.now) (facts c.args.self.now.sources) g.R.TableRow.table_of g.R.RowRef.shown (values_in c.args.slots.now) c.args.pipe.now (λ w. Covers (world c.args.self.now) (values_in c.args.slots.now) c.args.pipe.now w × (is_covered_join (world c.args.self.now) w c.args.joined.now ≡ true) × (matches_pass w (pairs_of c.args.matches.now) ≡ true)) (λ w p. p.0) _ _ c.loop-values.base _ c.in-Ok.item (items_left (world c.args.self.now) (values_in c.args.slots.now) c.args.pipe.now c.next.new.base) c.loop-values.invariant.log c.requires c.in-Ok.is c.in_ok-item.ensures.meant w p) gr);
     }
@@ -1425,8 +1357,8 @@ join_items-loop-values-preserved-in-Done g t c =
 pub join_items-loop-values-preserved-in-Done-2 : goal.join_items-loop-values-preserved-in-Done-2
 join_items-loop-values-preserved-in-Done-2 g t c =
     record {
-      meant = comes_on (item_join (world c.args.self.now) (values_in c.args.slots.now) c.args.joined.now (pairs_of c.args.matches.now)) (items_left (world c.args.self.now) (values_in c.args.slots.now) c.args.pipe.now c.loop-values.base) (items_left (world c.args.self.now) (values_in c.args.slots.now) c.args.pipe.now c.next.new.base) c.in-Ok.item _ c.loop-values.values _ _ (subst (λ s. Steps (items_left (world c.args.self.now) (values_in c.args.slots.now) c.args.pipe.now c.loop-values.base) s (items_left (world c.args.self.now) (values_in c.args.slots.now) c.args.pipe.now c.next.new.base)) c.in-Ok.is c.in_ok-item.ensures.meant)
-          (sym c.in_ok-further-in-Ok.ensures.meant ∙ ap (λ e. (c.in_ok-further-in-Ok.further, e)) c.in-Done.is) c.in_ok-values-in-Ok.ensures c.loop-values.invariant.meant;
+      meant = behind_on (item_join (world c.args.self.now) (values_in c.args.slots.now) c.args.joined.now (pairs_of c.args.matches.now)) (items_left (world c.args.self.now) (values_in c.args.slots.now) c.args.pipe.now c.loop-values.base) (items_left (world c.args.self.now) (values_in c.args.slots.now) c.args.pipe.now c.next.new.base) c.in-Ok.item _ c.loop-values.values _ _ (subst (λ s. Steps (items_left (world c.args.self.now) (values_in c.args.slots.now) c.args.pipe.now c.loop-values.base) s (items_left (world c.args.self.now) (values_in c.args.slots.now) c.args.pipe.now c.next.new.base)) c.in-Ok.is c.in_ok-item.ensures.meant)
+          c.in_ok-ending-in-Ok.ensures.meant c.in-Done.is c.loop-values.invariant.meant;
       log = asked (world c.args.self.now) (facts c.args.self.now.sources) g.R.TableRow.table_of g.R.RowRef.shown (values_in c.args.slots.now) c.args.pipe.now (λ w. Covers (world c.args.self.now) (values_in c.args.slots.now) c.args.pipe.now w × (is_covered_join (world c.args.self.now) w c.args.joined.now ≡ true) × (matches_pass w (pairs_of c.args.matches.now) ≡ true)) _ _ _ _ (went_on (world c.args.self.now) (facts c.args.self.now.sources) g.R.TableRow.table_of g.R.RowRef.shown (values_in c.args.slots.now) c.args.pipe.now (λ w. Covers (world c.args.self.now) (values_in c.args.slots.now) c.args.pipe.now w × (is_covered_join (world c.args.self.now) w c.args.joined.now ≡ true) × (matches_pass w (pairs_of c.args.matches.now) ≡ true)) (λ w p. p.0) _ _ _ c.loop-values.base c.next.new.base c.loop-values.invariant.log c.next.ensures.pulled)
           (λ w start p gr. c.join_item.ensures.grows w start p.1 p.2 p.0.slots_in (next_passes (world c.args.self.now) (facts c.args.self.now.sources) g.R.TableRow.table_of g.R.RowRef.shown (values_in c.args.slots.now) c.args.pipe.now (λ w. Covers (world c.args.self.now) (values_in c.args.slots.now) c.args.pipe.now w × (is_covered_join (world c.args.self.now) w c.args.joined.now ≡ true) × (matches_pass w (pairs_of c.args.matches.now) ≡ true)) (λ w p. p.0) _ _ c.loop-values.base _ c.in-Ok.item (items_left (world c.args.self.now) (values_in c.args.slots.now) c.args.pipe.now c.next.new.base) c.loop-values.invariant.log c.requires c.in-Ok.is c.in_ok-item.ensures.meant w p) gr);
     }
@@ -1434,8 +1366,8 @@ join_items-loop-values-preserved-in-Done-2 g t c =
 pub join_items-loop-values-preserved-in-Done-3 : goal.join_items-loop-values-preserved-in-Done-3
 join_items-loop-values-preserved-in-Done-3 g t c =
     record {
-      meant = comes_on (item_join (world c.args.self.now) (values_in c.args.slots.now) c.args.joined.now (pairs_of c.args.matches.now)) (items_left (world c.args.self.now) (values_in c.args.slots.now) c.args.pipe.now c.loop-values.base) (items_left (world c.args.self.now) (values_in c.args.slots.now) c.args.pipe.now c.next.new.base) c.in-Ok.item _ c.loop-values.values _ _ (subst (λ s. Steps (items_left (world c.args.self.now) (values_in c.args.slots.now) c.args.pipe.now c.loop-values.base) s (items_left (world c.args.self.now) (values_in c.args.slots.now) c.args.pipe.now c.next.new.base)) c.in-Ok.is c.in_ok-item.ensures.meant)
-          (sym c.in_ok-further-in-Ok.ensures.meant ∙ ap (λ e. (c.in_ok-further-in-Ok.further, e)) c.in-Done.is) c.in_ok-values-in-Ok.ensures c.loop-values.invariant.meant;
+      meant = behind_on (item_join (world c.args.self.now) (values_in c.args.slots.now) c.args.joined.now (pairs_of c.args.matches.now)) (items_left (world c.args.self.now) (values_in c.args.slots.now) c.args.pipe.now c.loop-values.base) (items_left (world c.args.self.now) (values_in c.args.slots.now) c.args.pipe.now c.next.new.base) c.in-Ok.item _ c.loop-values.values _ _ (subst (λ s. Steps (items_left (world c.args.self.now) (values_in c.args.slots.now) c.args.pipe.now c.loop-values.base) s (items_left (world c.args.self.now) (values_in c.args.slots.now) c.args.pipe.now c.next.new.base)) c.in-Ok.is c.in_ok-item.ensures.meant)
+          c.in_ok-ending-in-Ok.ensures.meant c.in-Done.is c.loop-values.invariant.meant;
       log = asked (world c.args.self.now) (facts c.args.self.now.sources) g.R.TableRow.table_of g.R.RowRef.shown (values_in c.args.slots.now) c.args.pipe.now (λ w. Covers (world c.args.self.now) (values_in c.args.slots.now) c.args.pipe.now w × (is_covered_join (world c.args.self.now) w c.args.joined.now ≡ true) × (matches_pass w (pairs_of c.args.matches.now) ≡ true)) _ _ _ _ (went_on (world c.args.self.now) (facts c.args.self.now.sources) g.R.TableRow.table_of g.R.RowRef.shown (values_in c.args.slots.now) c.args.pipe.now (λ w. Covers (world c.args.self.now) (values_in c.args.slots.now) c.args.pipe.now w × (is_covered_join (world c.args.self.now) w c.args.joined.now ≡ true) × (matches_pass w (pairs_of c.args.matches.now) ≡ true)) (λ w p. p.0) _ _ _ c.loop-values.base c.next.new.base c.loop-values.invariant.log c.next.ensures.pulled)
           (λ w start p gr. c.join_item.ensures.grows w start p.1 p.2 p.0.slots_in (next_passes (world c.args.self.now) (facts c.args.self.now.sources) g.R.TableRow.table_of g.R.RowRef.shown (values_in c.args.slots.now) c.args.pipe.now (λ w. Covers (world c.args.self.now) (values_in c.args.slots.now) c.args.pipe.now w × (is_covered_join (world c.args.self.now) w c.args.joined.now ≡ true) × (matches_pass w (pairs_of c.args.matches.now) ≡ true)) (λ w p. p.0) _ _ c.loop-values.base _ c.in-Ok.item (items_left (world c.args.self.now) (values_in c.args.slots.now) c.args.pipe.now c.next.new.base) c.loop-values.invariant.log c.requires c.in-Ok.is c.in_ok-item.ensures.meant w p) gr);
     }
@@ -1443,8 +1375,8 @@ join_items-loop-values-preserved-in-Done-3 g t c =
 pub join_items-loop-values-preserved-in-Done-4 : goal.join_items-loop-values-preserved-in-Done-4
 join_items-loop-values-preserved-in-Done-4 g t c =
     record {
-      meant = comes_on (item_join (world c.args.self.now) (values_in c.args.slots.now) c.args.joined.now (pairs_of c.args.matches.now)) (items_left (world c.args.self.now) (values_in c.args.slots.now) c.args.pipe.now c.loop-values.base) (items_left (world c.args.self.now) (values_in c.args.slots.now) c.args.pipe.now c.next.new.base) c.in-Ok.item _ c.loop-values.values _ _ (subst (λ s. Steps (items_left (world c.args.self.now) (values_in c.args.slots.now) c.args.pipe.now c.loop-values.base) s (items_left (world c.args.self.now) (values_in c.args.slots.now) c.args.pipe.now c.next.new.base)) c.in-Ok.is c.in_ok-item.ensures.meant)
-          (sym c.in_ok-further-in-Ok.ensures.meant ∙ ap (λ e. (c.in_ok-further-in-Ok.further, e)) c.in-Done.is) c.in_ok-values-in-Ok.ensures c.loop-values.invariant.meant;
+      meant = behind_on (item_join (world c.args.self.now) (values_in c.args.slots.now) c.args.joined.now (pairs_of c.args.matches.now)) (items_left (world c.args.self.now) (values_in c.args.slots.now) c.args.pipe.now c.loop-values.base) (items_left (world c.args.self.now) (values_in c.args.slots.now) c.args.pipe.now c.next.new.base) c.in-Ok.item _ c.loop-values.values _ _ (subst (λ s. Steps (items_left (world c.args.self.now) (values_in c.args.slots.now) c.args.pipe.now c.loop-values.base) s (items_left (world c.args.self.now) (values_in c.args.slots.now) c.args.pipe.now c.next.new.base)) c.in-Ok.is c.in_ok-item.ensures.meant)
+          c.in_ok-ending-in-Ok.ensures.meant c.in-Done.is c.loop-values.invariant.meant;
       log = asked (world c.args.self.now) (facts c.args.self.now.sources) g.R.TableRow.table_of g.R.RowRef.shown (values_in c.args.slots.now) c.args.pipe.now (λ w. Covers (world c.args.self.now) (values_in c.args.slots.now) c.args.pipe.now w × (is_covered_join (world c.args.self.now) w c.args.joined.now ≡ true) × (matches_pass w (pairs_of c.args.matches.now) ≡ true)) _ _ _ _ (went_on (world c.args.self.now) (facts c.args.self.now.sources) g.R.TableRow.table_of g.R.RowRef.shown (values_in c.args.slots.now) c.args.pipe.now (λ w. Covers (world c.args.self.now) (values_in c.args.slots.now) c.args.pipe.now w × (is_covered_join (world c.args.self.now) w c.args.joined.now ≡ true) × (matches_pass w (pairs_of c.args.matches.now) ≡ true)) (λ w p. p.0) _ _ _ c.loop-values.base c.next.new.base c.loop-values.invariant.log c.next.ensures.pulled)
           (λ w start p gr. c.join_item.ensures.grows w start p.1 p.2 p.0.slots_in (next_passes (world c.args.self.now) (facts c.args.self.now.sources) g.R.TableRow.table_of g.R.RowRef.shown (values_in c.args.slots.now) c.args.pipe.now (λ w. Covers (world c.args.self.now) (values_in c.args.slots.now) c.args.pipe.now w × (is_covered_join (world c.args.self.now) w c.args.joined.now ≡ true) × (matches_pass w (pairs_of c.args.matches.now) ≡ true)) (λ w p. p.0) _ _ c.loop-values.base _ c.in-Ok.item (items_left (world c.args.self.now) (values_in c.args.slots.now) c.args.pipe.now c.next.new.base) c.loop-values.invariant.log c.requires c.in-Ok.is c.in_ok-item.ensures.meant w p) gr);
     }
@@ -1452,8 +1384,8 @@ join_items-loop-values-preserved-in-Done-4 g t c =
 pub join_items-loop-values-preserved-in-Done-5 : goal.join_items-loop-values-preserved-in-Done-5
 join_items-loop-values-preserved-in-Done-5 g t c =
     record {
-      meant = comes_on (item_join (world c.args.self.now) (values_in c.args.slots.now) c.args.joined.now (pairs_of c.args.matches.now)) (items_left (world c.args.self.now) (values_in c.args.slots.now) c.args.pipe.now c.loop-values.base) (items_left (world c.args.self.now) (values_in c.args.slots.now) c.args.pipe.now c.next.new.base) c.in-Ok.item _ c.loop-values.values _ _ (subst (λ s. Steps (items_left (world c.args.self.now) (values_in c.args.slots.now) c.args.pipe.now c.loop-values.base) s (items_left (world c.args.self.now) (values_in c.args.slots.now) c.args.pipe.now c.next.new.base)) c.in-Ok.is c.in_ok-item.ensures.meant)
-          (sym c.in_ok-further-in-Ok.ensures.meant ∙ ap (λ e. (c.in_ok-further-in-Ok.further, e)) c.in-Done.is) c.in_ok-values-in-Ok.ensures c.loop-values.invariant.meant;
+      meant = behind_on (item_join (world c.args.self.now) (values_in c.args.slots.now) c.args.joined.now (pairs_of c.args.matches.now)) (items_left (world c.args.self.now) (values_in c.args.slots.now) c.args.pipe.now c.loop-values.base) (items_left (world c.args.self.now) (values_in c.args.slots.now) c.args.pipe.now c.next.new.base) c.in-Ok.item _ c.loop-values.values _ _ (subst (λ s. Steps (items_left (world c.args.self.now) (values_in c.args.slots.now) c.args.pipe.now c.loop-values.base) s (items_left (world c.args.self.now) (values_in c.args.slots.now) c.args.pipe.now c.next.new.base)) c.in-Ok.is c.in_ok-item.ensures.meant)
+          c.in_ok-ending-in-Ok.ensures.meant c.in-Done.is c.loop-values.invariant.meant;
       log = asked (world c.args.self.now) (facts c.args.self.now.sources) g.R.TableRow.table_of g.R.RowRef.shown (values_in c.args.slots.now) c.args.pipe.now (λ w. Covers (world c.args.self.now) (values_in c.args.slots.now) c.args.pipe.now w × (is_covered_join (world c.args.self.now) w c.args.joined.now ≡ true) × (matches_pass w (pairs_of c.args.matches.now) ≡ true)) _ _ _ _ (went_on (world c.args.self.now) (facts c.args.self.now.sources) g.R.TableRow.table_of g.R.RowRef.shown (values_in c.args.slots.now) c.args.pipe.now (λ w. Covers (world c.args.self.now) (values_in c.args.slots.now) c.args.pipe.now w × (is_covered_join (world c.args.self.now) w c.args.joined.now ≡ true) × (matches_pass w (pairs_of c.args.matches.now) ≡ true)) (λ w p. p.0) _ _ _ c.loop-values.base c.next.new.base c.loop-values.invariant.log c.next.ensures.pulled)
           (λ w start p gr. c.join_item.ensures.grows w start p.1 p.2 p.0.slots_in (next_passes (world c.args.self.now) (facts c.args.self.now.sources) g.R.TableRow.table_of g.R.RowRef.shown (values_in c.args.slots.now) c.args.pipe.now (λ w. Covers (world c.args.self.now) (values_in c.args.slots.now) c.args.pipe.now w × (is_covered_join (world c.args.self.now) w c.args.joined.now ≡ true) × (matches_pass w (pairs_of c.args.matches.now) ≡ true)) (λ w p. p.0) _ _ c.loop-values.base _ c.in-Ok.item (items_left (world c.args.self.now) (values_in c.args.slots.now) c.args.pipe.now c.next.new.base) c.loop-values.invariant.log c.requires c.in-Ok.is c.in_ok-item.ensures.meant w p) gr);
     }
@@ -1483,34 +1415,6 @@ record-loop-field-preserved g t c =
       grows = λ w start h s gr.
           c.evaluate.ensures.grows w start (all_there (λ (field : Field Form). is_covered (world c.args.self.now) w field.value) _ _ _ h c.field-item.is c.loop-field-test.true) s
           (c.loop-field.invariant.grows w start h s gr);
-    }
-
-pub select_all-returns-clause-grows : goal.select_all-returns-clause-grows
-select_all-returns-clause-grows g t c =
-    λ w start h s a gr.
-    c.loop-item.invariant.grows w start h s a gr
-
-pub select_all-returns-in-Err-clause-grows : goal.select_all-returns-in-Err-clause-grows
-select_all-returns-in-Err-clause-grows g t c =
-    λ w start h s a gr.
-    c.value_of_item.ensures.grows w start h s (all_there (has_watched_rows w) _ _ _ a c.item-item.is c.loop-item-test.true) (c.loop-item.invariant.grows w start h s a gr)
-
-pub select_all-returns-in_err-value-clause-grows : goal.select_all-returns-in_err-value-clause-grows
-select_all-returns-in_err-value-clause-grows g t c =
-    λ w start h s a gr.
-    c.value_of_item.ensures.grows w start h s (all_there (has_watched_rows w) _ _ _ a c.item-item.is c.loop-item-test.true) (c.loop-item.invariant.grows w start h s a gr)
-
-pub select_all-returns-in_err-push-in-Ok-clause-grows : goal.select_all-returns-in_err-push-in-Ok-clause-grows
-select_all-returns-in_err-push-in-Ok-clause-grows g t c =
-    λ w start h s a gr.
-    c.value_of_item.ensures.grows w start h s (all_there (has_watched_rows w) _ _ _ a c.item-item.is c.loop-item-test.true) (c.loop-item.invariant.grows w start h s a gr)
-
-pub select_all-loop-item-preserved : goal.select_all-loop-item-preserved
-select_all-loop-item-preserved g t c =
-    record {
-      meant = select_goes (value_of_item (world c.args.self.now) c.args.body.now c.args.slots.now) c.args.items.now end.Done _ c.loop-item.values _ _ _ _
-          c.item-item.is c.loop-item-test.true (sym c.in-Ok.is ∙ c.in_ok-value.ensures.meant) c.in_ok-push-in-Ok.ensures.ok c.loop-item.invariant.meant;
-      grows = λ w start h s a gr. c.value_of_item.ensures.grows w start h s (all_there (has_watched_rows w) _ _ _ a c.item-item.is c.loop-item-test.true) (c.loop-item.invariant.grows w start h s a gr);
     }
 
 pub key_columns-returns-clause-grows : goal.key_columns-returns-clause-grows
@@ -1549,22 +1453,6 @@ pub sequence-returns-in_err-items-clause-grows : goal.sequence-returns-in_err-it
 sequence-returns-in_err-items-clause-grows g t c =
     λ w start st h s gr.
     c.read.ensures.grows w start (covered_as (world c.args.self.now) w _ _ c.in_ok-pipe.ensures.source h) (stage_as (world c.args.self.now) w _ _ c.in_ok-pipe.ensures.stage st) s gr
-
-pub simple-returns-in_ok-pipe-in-Some-clause-grows : goal.simple-returns-in_ok-pipe-in-Some-clause-grows
-simple-returns-in_ok-pipe-in-Some-clause-grows g t c =
-    λ w start h s gr.
-    c.simple_items.ensures.grows w start (covered_as (world c.args.self.now) w _ _ c.in_ok-pipe-in-Some.ensures.source (source_of (world c.args.self.now) w c.in-Some.stage c.args.source.now c.in-Some.source.now c.in-Some.ensures.stage h))
-    (stage_as (world c.args.self.now) w _ _ c.in_ok-pipe-in-Some.ensures.stage (stage_over (world c.args.self.now) w c.in-Some.stage c.args.source.now c.in-Some.source.now c.in-Some.ensures.stage h)) s gr
-
-pub simple-returns-in_ok-pipe-in-None-clause-grows : goal.simple-returns-in_ok-pipe-in-None-clause-grows
-simple-returns-in_ok-pipe-in-None-clause-grows g t c =
-    λ w start h s gr.
-    c.simple_items-in-None.ensures.grows w start (covered_as (world c.args.self.now) w _ _ c.in_ok-pipe-in-None.ensures.source h) (stage_as (world c.args.self.now) w _ _ c.in_ok-pipe-in-None.ensures.stage refl) s gr
-
-pub given-returns-clause-grows : goal.given-returns-clause-grows
-given-returns-clause-grows g t c =
-    λ w start h k s gr.
-    c.given_items.ensures.grows w start (covered_as (world c.args.self.now) w _ _ c.in_ok-pipe.ensures.source h) (stage_as (world c.args.self.now) w _ _ c.in_ok-pipe.ensures.stage refl) s (c.evaluate.ensures.grows w start k s gr)
 
 pub all-returns-clause-grows : goal.all-returns-clause-grows
 all-returns-clause-grows g t c =
@@ -1655,3 +1543,339 @@ order_by-returns-in_err-sort_by-in-Done-clause-grows g t c =
     c.key_columns-columns.ensures.grows w start k s
     (ap (have_watched_rows w) c.as_slice.ensures ∙ items_read (world c.args.self.now) w (values_in c.args.slots.now) c.in_ok-pipe.pipe None _ c.in_ok-items.ensures.meant (covered_as (world c.args.self.now) w _ _ c.in_ok-pipe.ensures.source h) (stage_as (world c.args.self.now) w _ _ c.in_ok-pipe.ensures.stage refl) s)
     (c.read.ensures.grows w start (covered_as (world c.args.self.now) w _ _ c.in_ok-pipe.ensures.source h) (stage_as (world c.args.self.now) w _ _ c.in_ok-pipe.ensures.stage refl) s gr)
+
+pub pass_item-returns-in-Some-clause-meant : goal.pass_item-returns-in-Some-clause-meant
+pass_item-returns-in-Some-clause-meant g t c =
+    scalar_comes g.R.TableRow.table_of g.R.RowRef.shown (world c.args.self.now) (values_in c.args.slots.now) c.args.pipe.now c.args.item c.in-Some.cell.now _ (c.in-Some.ensures (world c.args.self.now) (values_in c.args.slots.now) c.args.pipe.now.stage c.args.pipe.now.source.now c.requires)
+    (bare_item (world c.args.self.now) (values_in c.args.slots.now) c.args.pipe.now.source.now c.args.item (sym c.has_no_stage.ensures ∙ c.if-has_no_stage.true)) (ap value.Scalar c.in_ok-copy.ensures)
+
+pub group_next-returns-in-Ok-clause-meant : goal.group_next-returns-in-Ok-clause-meant
+group_next-returns-in-Ok-clause-meant g t c =
+    gathers_as (groups_of same_values) _ _ _ _ c.group_item.result (pairs_as (world c.args.self.now) (values_in c.args.slots.now) c.args.key.now.body.now c.args.element.now.body _ _ ((ap (λ p. comes g.R.TableRow.table_of g.R.RowRef.shown (world c.args.self.now) (values_in c.args.slots.now) c.args.pipe.now (pulled_value p)) c.in-Row.is ∙ row_says g.R.TableRow.table_of g.R.RowRef.shown (world c.args.self.now) (values_in c.args.slots.now) c.args.pipe.now.stage c.args.pipe.now.source.now c.args.pipe.now.plan c.requires.planned c.in-Row.row true (subst (λ p. IsPulled g.R.TableRow.table_of g.R.RowRef.shown c.args.pipe.now.plan p) c.in-Row.is c.requires.pulled)) ∙ (subst (λ step. GivesStep (last (world c.args.self.now) (values_in c.args.slots.now) c.args.pipe.now.stage (value.Row c.in-Row.row)) step) c.in-Ok.is c.in_ok-item-in-Row.ensures.meant))) c.group_item.ensures.meant
+
+pub group_next-returns-in-Err-clause-meant : goal.group_next-returns-in-Err-clause-meant
+group_next-returns-in-Err-clause-meant g t c =
+    pairs_end (world c.args.self.now) (values_in c.args.slots.now) c.args.key.now.body.now c.args.element.now.body _ _ c.in-Err.end (subst (λ (s : Stream (Value _)). GivesStep s (Err c.in-Err.end)) (sym (ap (λ p. comes g.R.TableRow.table_of g.R.RowRef.shown (world c.args.self.now) (values_in c.args.slots.now) c.args.pipe.now (pulled_value p)) c.in-Row.is ∙ row_says g.R.TableRow.table_of g.R.RowRef.shown (world c.args.self.now) (values_in c.args.slots.now) c.args.pipe.now.stage c.args.pipe.now.source.now c.args.pipe.now.plan c.requires.planned c.in-Row.row true (subst (λ p. IsPulled g.R.TableRow.table_of g.R.RowRef.shown c.args.pipe.now.plan p) c.in-Row.is c.requires.pulled))) (subst (λ step. GivesStep (last (world c.args.self.now) (values_in c.args.slots.now) c.args.pipe.now.stage (value.Row c.in-Row.row)) step) c.in-Err.is c.in_ok-item-in-Row.ensures.meant))
+
+pub group_next-returns-in-Item-2-clause-meant : goal.group_next-returns-in-Item-2-clause-meant
+group_next-returns-in-Item-2-clause-meant g t c =
+    gathers_as (groups_of same_values) _ _ _ _ c.group_item-in-Item-2.result (pairs_as (world c.args.self.now) (values_in c.args.slots.now) c.args.key.now.body.now c.args.element.now.body _ _ ((ap (λ p. comes g.R.TableRow.table_of g.R.RowRef.shown (world c.args.self.now) (values_in c.args.slots.now) c.args.pipe.now (pulled_value p)) c.in-Item.is) ∙ sym (subst (λ o. outcome_stream o ≡ comes g.R.TableRow.table_of g.R.RowRef.shown (world c.args.self.now) (values_in c.args.slots.now) c.args.pipe.now c.in-Item.item) c.in-Item-2.is c.in_ok-item-in-Item.ensures.meant))) c.group_item-in-Item-2.ensures.meant
+
+pub group_next-returns-in-Dropped-clause-meant : goal.group_next-returns-in-Dropped-clause-meant
+group_next-returns-in-Dropped-clause-meant g t c =
+    pairs_none (world c.args.self.now) (values_in c.args.slots.now) c.args.key.now.body.now c.args.element.now.body _ _ end.Done ((subst (λ o. outcome_stream o ≡ comes g.R.TableRow.table_of g.R.RowRef.shown (world c.args.self.now) (values_in c.args.slots.now) c.args.pipe.now c.in-Item.item) c.in-Dropped.is c.in_ok-item-in-Item.ensures.meant) ∙ sym (ap (λ p. comes g.R.TableRow.table_of g.R.RowRef.shown (world c.args.self.now) (values_in c.args.slots.now) c.args.pipe.now (pulled_value p)) c.in-Item.is))
+
+pub group_next-returns-in-Fault-clause-meant : goal.group_next-returns-in-Fault-clause-meant
+group_next-returns-in-Fault-clause-meant g t c =
+    pairs_none (world c.args.self.now) (values_in c.args.slots.now) c.args.key.now.body.now c.args.element.now.body _ _ (end.Fault c.in-Fault.fault) ((subst (λ o. outcome_stream o ≡ comes g.R.TableRow.table_of g.R.RowRef.shown (world c.args.self.now) (values_in c.args.slots.now) c.args.pipe.now c.in-Item.item) c.in-Fault.is c.in_ok-item-in-Item.ensures.meant) ∙ sym (ap (λ p. comes g.R.TableRow.table_of g.R.RowRef.shown (world c.args.self.now) (values_in c.args.slots.now) c.args.pipe.now (pulled_value p)) c.in-Item.is))
+
+pub group_next-returns-in_err-item-in-Row-clause-grows : goal.group_next-returns-in_err-item-in-Row-clause-grows
+group_next-returns-in_err-item-in-Row-clause-grows g t c =
+    λ w start h hk he i gr.
+    (c.pass_row.ensures.grows w start (stage_covered g.R.TableRow.table_of g.R.RowRef.shown (world c.args.self.now) w (values_in c.args.slots.now) c.args.pipe.now h) (slots_pass g.R.TableRow.table_of g.R.RowRef.shown (world c.args.self.now) w (values_in c.args.slots.now) c.args.pipe.now h) (row_passes w (pulled_value c.args.pulled) c.in-Row.row (ap pulled_value c.in-Row.is) i) gr)
+
+pub group_next-returns-in-Ok-clause-grows : goal.group_next-returns-in-Ok-clause-grows
+group_next-returns-in-Ok-clause-grows g t c =
+    λ w start h hk he i gr.
+    c.group_item.ensures.grows w start hk he (slots_pass g.R.TableRow.table_of g.R.RowRef.shown (world c.args.self.now) w (values_in c.args.slots.now) c.args.pipe.now h) (came_watched g.R.TableRow.table_of g.R.RowRef.shown (world c.args.self.now) (values_in c.args.slots.now) c.args.pipe.now w (pulled_value c.args.pulled) c.in-Ok.item h i (sym ((ap (λ p. comes g.R.TableRow.table_of g.R.RowRef.shown (world c.args.self.now) (values_in c.args.slots.now) c.args.pipe.now (pulled_value p)) c.in-Row.is ∙ row_says g.R.TableRow.table_of g.R.RowRef.shown (world c.args.self.now) (values_in c.args.slots.now) c.args.pipe.now.stage c.args.pipe.now.source.now c.args.pipe.now.plan c.requires.planned c.in-Row.row true (subst (λ p. IsPulled g.R.TableRow.table_of g.R.RowRef.shown c.args.pipe.now.plan p) c.in-Row.is c.requires.pulled)) ∙ (subst (λ step. GivesStep (last (world c.args.self.now) (values_in c.args.slots.now) c.args.pipe.now.stage (value.Row c.in-Row.row)) step) c.in-Ok.is c.in_ok-item-in-Row.ensures.meant)))) (c.pass_row.ensures.grows w start (stage_covered g.R.TableRow.table_of g.R.RowRef.shown (world c.args.self.now) w (values_in c.args.slots.now) c.args.pipe.now h) (slots_pass g.R.TableRow.table_of g.R.RowRef.shown (world c.args.self.now) w (values_in c.args.slots.now) c.args.pipe.now h) (row_passes w (pulled_value c.args.pulled) c.in-Row.row (ap pulled_value c.in-Row.is) i) gr)
+
+pub group_next-returns-in-Err-clause-grows : goal.group_next-returns-in-Err-clause-grows
+group_next-returns-in-Err-clause-grows g t c =
+    λ w start h hk he i gr.
+    (c.pass_row.ensures.grows w start (stage_covered g.R.TableRow.table_of g.R.RowRef.shown (world c.args.self.now) w (values_in c.args.slots.now) c.args.pipe.now h) (slots_pass g.R.TableRow.table_of g.R.RowRef.shown (world c.args.self.now) w (values_in c.args.slots.now) c.args.pipe.now h) (row_passes w (pulled_value c.args.pulled) c.in-Row.row (ap pulled_value c.in-Row.is) i) gr)
+
+pub group_next-returns-in-Dropped-clause-grows : goal.group_next-returns-in-Dropped-clause-grows
+group_next-returns-in-Dropped-clause-grows g t c =
+    λ w start h hk he i gr.
+    (c.pass_item.ensures.grows w start (stage_covered g.R.TableRow.table_of g.R.RowRef.shown (world c.args.self.now) w (values_in c.args.slots.now) c.args.pipe.now h) (source_covered g.R.TableRow.table_of g.R.RowRef.shown (world c.args.self.now) w (values_in c.args.slots.now) c.args.pipe.now h) (slots_pass g.R.TableRow.table_of g.R.RowRef.shown (world c.args.self.now) w (values_in c.args.slots.now) c.args.pipe.now h) (ap (λ p. has_watched_rows w (pulled_value p)) (sym c.in-Item.is) ∙ i) gr)
+
+pub group_next-returns-in-Fault-clause-grows : goal.group_next-returns-in-Fault-clause-grows
+group_next-returns-in-Fault-clause-grows g t c =
+    λ w start h hk he i gr.
+    (c.pass_item.ensures.grows w start (stage_covered g.R.TableRow.table_of g.R.RowRef.shown (world c.args.self.now) w (values_in c.args.slots.now) c.args.pipe.now h) (source_covered g.R.TableRow.table_of g.R.RowRef.shown (world c.args.self.now) w (values_in c.args.slots.now) c.args.pipe.now h) (slots_pass g.R.TableRow.table_of g.R.RowRef.shown (world c.args.self.now) w (values_in c.args.slots.now) c.args.pipe.now h) (ap (λ p. has_watched_rows w (pulled_value p)) (sym c.in-Item.is) ∙ i) gr)
+
+pub group_next-returns-in_err-item-in-Item-clause-grows : goal.group_next-returns-in_err-item-in-Item-clause-grows
+group_next-returns-in_err-item-in-Item-clause-grows g t c =
+    λ w start h hk he i gr.
+    (c.pass_item.ensures.grows w start (stage_covered g.R.TableRow.table_of g.R.RowRef.shown (world c.args.self.now) w (values_in c.args.slots.now) c.args.pipe.now h) (source_covered g.R.TableRow.table_of g.R.RowRef.shown (world c.args.self.now) w (values_in c.args.slots.now) c.args.pipe.now h) (slots_pass g.R.TableRow.table_of g.R.RowRef.shown (world c.args.self.now) w (values_in c.args.slots.now) c.args.pipe.now h) (ap (λ p. has_watched_rows w (pulled_value p)) (sym c.in-Item.is) ∙ i) gr)
+
+pub group_next-returns-in-Item-2-clause-grows : goal.group_next-returns-in-Item-2-clause-grows
+group_next-returns-in-Item-2-clause-grows g t c =
+    λ w start h hk he i gr.
+    c.group_item-in-Item-2.ensures.grows w start hk he (slots_pass g.R.TableRow.table_of g.R.RowRef.shown (world c.args.self.now) w (values_in c.args.slots.now) c.args.pipe.now h) (came_watched g.R.TableRow.table_of g.R.RowRef.shown (world c.args.self.now) (values_in c.args.slots.now) c.args.pipe.now w (pulled_value c.args.pulled) c.in-Item-2.item h i (sym ((ap (λ p. comes g.R.TableRow.table_of g.R.RowRef.shown (world c.args.self.now) (values_in c.args.slots.now) c.args.pipe.now (pulled_value p)) c.in-Item.is) ∙ sym (subst (λ o. outcome_stream o ≡ comes g.R.TableRow.table_of g.R.RowRef.shown (world c.args.self.now) (values_in c.args.slots.now) c.args.pipe.now c.in-Item.item) c.in-Item-2.is c.in_ok-item-in-Item.ensures.meant)))) (c.pass_item.ensures.grows w start (stage_covered g.R.TableRow.table_of g.R.RowRef.shown (world c.args.self.now) w (values_in c.args.slots.now) c.args.pipe.now h) (source_covered g.R.TableRow.table_of g.R.RowRef.shown (world c.args.self.now) w (values_in c.args.slots.now) c.args.pipe.now h) (slots_pass g.R.TableRow.table_of g.R.RowRef.shown (world c.args.self.now) w (values_in c.args.slots.now) c.args.pipe.now h) (ap (λ p. has_watched_rows w (pulled_value p)) (sym c.in-Item.is) ∙ i) gr)
+
+pub distinct-loop-pulled-init : goal.distinct-loop-pulled-init
+distinct-loop-pulled-init g t c =
+    record {
+      meant = gathered_begins (first_keys same_values) _ _ _ c.in_ok-firsts.ensures (left_opened (world c.args.self.now) (values_in c.args.slots.now) _ _ c.in_ok-base.base c.in_ok-base.ensures.meant);
+      log = opened (world c.args.self.now) (facts c.args.self.now.sources) g.R.TableRow.table_of g.R.RowRef.shown (values_in c.args.slots.now) c.args.pipe.now (Covers (world c.args.self.now) (values_in c.args.slots.now) c.args.pipe.now) _ _ c.in_ok-base.base (λ w start p gr. c.open.ensures.grows w start p.source_in p.slots_in gr) (λ w p. c.in_ok-base.ensures.from w p.source_in p.slots_in);
+    }
+
+pub distinct-loop-pulled-preserved : goal.distinct-loop-pulled-preserved
+distinct-loop-pulled-preserved g t c =
+    record {
+      meant = gathered_on (first_keys same_values) (items_left (world c.args.self.now) (values_in c.args.slots.now) c.args.pipe.now c.loop-pulled.base) (comes g.R.TableRow.table_of g.R.RowRef.shown (world c.args.self.now) (values_in c.args.slots.now) c.args.pipe.now (pulled_value c.in-Ok.pulled)) (items_left (world c.args.self.now) (values_in c.args.slots.now) c.args.pipe.now c.pull.new.self) _ (firsts_in c.loop-pulled.firsts) (firsts_in c.add_next.new.firsts) (pulled g.R.TableRow.table_of g.R.RowRef.shown (world c.args.self.now) (values_in c.args.slots.now) c.args.pipe.now c.loop-pulled.base c.pull.new.self (pulled_value c.in-Ok.pulled) c.requires (subst (λ r. IfOk r (λ p. kept_stream g.R.TableRow.table_of g.R.RowRef.shown c.args.pipe.now.plan c.loop-pulled.base ≡ in_front (pulled_value p) (kept_stream g.R.TableRow.table_of g.R.RowRef.shown c.args.pipe.now.plan c.pull.new.self))) c.in-Ok.is c.pull.ensures.item))
+          (subst (λ e. AddsFirsts (firsts_in c.loop-pulled.firsts) (firsts_in c.add_next.new.firsts) (comes g.R.TableRow.table_of g.R.RowRef.shown (world c.args.self.now) (values_in c.args.slots.now) c.args.pipe.now (pulled_value c.in-Ok.pulled)) e) c.in-Done.is c.in_ok-add_next-in-Ok.ensures.meant) c.loop-pulled.invariant.meant;
+      log = (took (world c.args.self.now) (facts c.args.self.now.sources) g.R.TableRow.table_of g.R.RowRef.shown (values_in c.args.slots.now) c.args.pipe.now (Covers (world c.args.self.now) (values_in c.args.slots.now) c.args.pipe.now) (λ w p. p) _ _ _ c.loop-pulled.base c.pull.new.self (pulled_value c.in-Ok.pulled) c.loop-pulled.invariant.log (subst (λ r. IfOk r (λ p. kept_stream g.R.TableRow.table_of g.R.RowRef.shown c.args.pipe.now.plan c.loop-pulled.base ≡ in_front (pulled_value p) (kept_stream g.R.TableRow.table_of g.R.RowRef.shown c.args.pipe.now.plan c.pull.new.self))) c.in-Ok.is c.pull.ensures.item)
+          (λ w start h i gr. c.add_next.ensures.grows w start h i gr));
+    }
+
+pub distinct-loop-pulled-smaller : goal.distinct-loop-pulled-smaller
+distinct-loop-pulled-smaller g t c =
+    fewer (kept_stream g.R.TableRow.table_of g.R.RowRef.shown c.args.pipe.now.plan c.loop-pulled.base) (kept_stream g.R.TableRow.table_of g.R.RowRef.shown c.args.pipe.now.plan c.pull.new.self) (pulled_value c.in-Ok.pulled) (subst (λ r. IfOk r (λ p. kept_stream g.R.TableRow.table_of g.R.RowRef.shown c.args.pipe.now.plan c.loop-pulled.base ≡ in_front (pulled_value p) (kept_stream g.R.TableRow.table_of g.R.RowRef.shown c.args.pipe.now.plan c.pull.new.self))) c.in-Ok.is c.pull.ensures.item)
+
+pub distinct-returns-in-Fault-clause-meant : goal.distinct-returns-in-Fault-clause-meant
+distinct-returns-in-Fault-clause-meant g t c =
+    firsts_answered (firsts_in c.add_next.new.firsts) _ (end.Fault c.in-Fault.fault) _ c.into_items.ensures
+    (gathered_stopped (first_keys same_values) (items_left (world c.args.self.now) (values_in c.args.slots.now) c.args.pipe.now c.loop-pulled.base) (comes g.R.TableRow.table_of g.R.RowRef.shown (world c.args.self.now) (values_in c.args.slots.now) c.args.pipe.now (pulled_value c.in-Ok.pulled)) (items_left (world c.args.self.now) (values_in c.args.slots.now) c.args.pipe.now c.pull.new.self) _ (firsts_in c.loop-pulled.firsts) (firsts_in c.add_next.new.firsts) c.in-Fault.fault (pulled g.R.TableRow.table_of g.R.RowRef.shown (world c.args.self.now) (values_in c.args.slots.now) c.args.pipe.now c.loop-pulled.base c.pull.new.self (pulled_value c.in-Ok.pulled) c.requires (subst (λ r. IfOk r (λ p. kept_stream g.R.TableRow.table_of g.R.RowRef.shown c.args.pipe.now.plan c.loop-pulled.base ≡ in_front (pulled_value p) (kept_stream g.R.TableRow.table_of g.R.RowRef.shown c.args.pipe.now.plan c.pull.new.self))) c.in-Ok.is c.pull.ensures.item)) (subst (λ e. AddsFirsts (firsts_in c.loop-pulled.firsts) (firsts_in c.add_next.new.firsts) (comes g.R.TableRow.table_of g.R.RowRef.shown (world c.args.self.now) (values_in c.args.slots.now) c.args.pipe.now (pulled_value c.in-Ok.pulled)) e) c.in-Fault.is c.in_ok-add_next-in-Ok.ensures.meant) c.loop-pulled.invariant.meant)
+
+pub pass_stage-returns-in_ok-value_of_item-in-Select-clause-meant : goal.pass_stage-returns-in_ok-value_of_item-in-Select-clause-meant
+pass_stage-returns-in_ok-value_of_item-in-Select-clause-meant g t c =
+    c.outcome_of.ensures ∙ given_stage (world c.args.self.now) (values_in c.args.slots.now) c.args.item _ _ _ c.in-Select.is c.in_ok-value_of_item-in-Select.ensures.meant
+
+pub pass_stage-returns-in_ok-value_of_item-in-Select-clause-grows : goal.pass_stage-returns-in_ok-value_of_item-in-Select-clause-grows
+pass_stage-returns-in_ok-value_of_item-in-Select-clause-grows g t c =
+    λ w start h s i gr.
+    c.value_of_item.ensures.grows w start (subst (λ st. is_covered_stage (world c.args.self.now) w st ≡ true) c.in-Select.is h) s i gr
+
+pub pass_stage-returns-in_err-value_of_item-in-Select-clause-grows : goal.pass_stage-returns-in_err-value_of_item-in-Select-clause-grows
+pass_stage-returns-in_err-value_of_item-in-Select-clause-grows g t c =
+    λ w start h s i gr.
+    c.value_of_item.ensures.grows w start (subst (λ st. is_covered_stage (world c.args.self.now) w st ≡ true) c.in-Select.is h) s i gr
+
+pub pass_row-returns-in_ok-value_of_item-in-None-clause-meant : goal.pass_row-returns-in_ok-value_of_item-in-None-clause-meant
+pass_row-returns-in_ok-value_of_item-in-None-clause-meant g t c =
+    subst (λ (s : Stream (Value _)). GivesStep s c.step_of.result) (given_last (world c.args.self.now) (values_in c.args.slots.now) (value.Row c.args.row) _ _ _ c.in-Select.is c.in_ok-value_of_item-in-None.ensures.meant) c.step_of.ensures
+
+pub pass_row-returns-in_ok-value_of_item-in-None-clause-grows : goal.pass_row-returns-in_ok-value_of_item-in-None-clause-grows
+pass_row-returns-in_ok-value_of_item-in-None-clause-grows g t c =
+    λ w start h s i gr.
+    c.value_of_item.ensures.grows w start (subst (λ st. is_covered_stage (world c.args.self.now) w st ≡ true) c.in-Select.is h) s (passing_row w (value.Row c.args.row) c.args.row refl i) gr
+
+pub pass_row-returns-in_err-value_of_item-in-None-clause-grows : goal.pass_row-returns-in_err-value_of_item-in-None-clause-grows
+pass_row-returns-in_err-value_of_item-in-None-clause-grows g t c =
+    λ w start h s i gr.
+    c.value_of_item.ensures.grows w start (subst (λ st. is_covered_stage (world c.args.self.now) w st ≡ true) c.in-Select.is h) s (passing_row w (value.Row c.args.row) c.args.row refl i) gr
+
+pub tally_by-returns-in_ok-value_of_item-in-None-clause-meant : goal.tally_by-returns-in_ok-value_of_item-in-None-clause-meant
+tally_by-returns-in_ok-value_of_item-in-None-clause-meant g t c =
+    λ ty rest.
+    ap (λ (s : Stream (Value _)). tallied ty c.args.tally (then_stream s rest)) (sym (given_select (world c.args.self.now) (values_in c.args.slots.now) c.args.item.now _ c.args.lambda.now.body.now c.in_ok-value_of_item-in-None.ensures.meant))
+    ∙ c.with_given.ensures ty rest
+
+pub tally_item-returns-in_ok-given-in-Select-clause-meant : goal.tally_item-returns-in_ok-given-in-Select-clause-meant
+tally_item-returns-in_ok-given-in-Select-clause-meant g t c =
+    λ ty rest.
+    ap (λ (s : Stream (Value _)). tallied ty c.args.tally (then_stream s rest)) (sym (given_stage (world c.args.self.now) (values_in c.args.slots.now) c.args.item.now _ _ _ c.in-Select.is c.in_ok-given-in-Select.ensures.meant))
+    ∙ c.with_given.ensures ty rest
+
+pub tally_item-returns-in_ok-given-in-Select-clause-grows : goal.tally_item-returns-in_ok-given-in-Select-clause-grows
+tally_item-returns-in_ok-given-in-Select-clause-grows g t c =
+    λ w start h s i gr.
+    c.value_of_item.ensures.grows w start (subst (λ st. is_covered_stage (world c.args.self.now) w st ≡ true) c.in-Select.is h) s i gr
+
+pub tally_item-returns-in_err-given-in-Select-clause-grows : goal.tally_item-returns-in_err-given-in-Select-clause-grows
+tally_item-returns-in_err-given-in-Select-clause-grows g t c =
+    λ w start h s i gr.
+    c.value_of_item.ensures.grows w start (subst (λ st. is_covered_stage (world c.args.self.now) w st ≡ true) c.in-Select.is h) s i gr
+
+pub tally_row-returns-in_ok-value_of_item-in-None-clause-meant : goal.tally_row-returns-in_ok-value_of_item-in-None-clause-meant
+tally_row-returns-in_ok-value_of_item-in-None-clause-meant g t c =
+    λ ty rest.
+    ap (λ (s : Stream (Value _)). tallied ty c.args.tally (then_stream s rest)) (sym (given_last (world c.args.self.now) (values_in c.args.slots.now) (value.Row c.args.row.now) _ _ _ c.in-Select.is
+    (c.in_ok-value_of_item-in-None.ensures.meant ∙ ap (λ r. form_meaning (world c.args.self.now) c.in-Select.body.now (with_item (world c.args.self.now) (values_in c.args.slots.now) (value.Row r))) c.again.ensures)))
+    ∙ c.with_given.ensures ty rest
+
+pub tally_row-returns-in_ok-value_of_item-in-None-clause-grows : goal.tally_row-returns-in_ok-value_of_item-in-None-clause-grows
+tally_row-returns-in_ok-value_of_item-in-None-clause-grows g t c =
+    λ w start h s i gr.
+    c.value_of_item.ensures.grows w start (subst (λ st. is_covered_stage (world c.args.self.now) w st ≡ true) c.in-Select.is h) s
+    (passing_row w (value.Row c.again.result) c.again.result refl (ap w.row c.again.ensures ∙ i)) gr
+
+pub tally_row-returns-in_err-value_of_item-in-None-clause-grows : goal.tally_row-returns-in_err-value_of_item-in-None-clause-grows
+tally_row-returns-in_err-value_of_item-in-None-clause-grows g t c =
+    λ w start h s i gr.
+    c.value_of_item.ensures.grows w start (subst (λ st. is_covered_stage (world c.args.self.now) w st ≡ true) c.in-Select.is h) s
+    (passing_row w (value.Row c.again.result) c.again.result refl (ap w.row c.again.ensures ∙ i)) gr
+
+pub tally_next-returns-in_ok-outcome-in-Item-clause-meant : goal.tally_next-returns-in_ok-outcome-in-Item-clause-meant
+tally_next-returns-in_ok-outcome-in-Item-clause-meant g t c =
+    λ ty rest.
+    ap (λ (s : Stream (Value _)). tallied ty c.args.tally (then_stream s rest)) ((ap (λ p. comes g.R.TableRow.table_of g.R.RowRef.shown (world c.args.self.now) (values_in c.args.slots.now) c.args.pipe.now (pulled_value p)) c.in-Item.is) ∙ sym c.in_ok-outcome-in-Item.ensures.meant)
+    ∙ c.with_outcome.ensures ty rest
+
+pub tally_next-returns-in_ok-outcome-in-Item-clause-grows : goal.tally_next-returns-in_ok-outcome-in-Item-clause-grows
+tally_next-returns-in_ok-outcome-in-Item-clause-grows g t c =
+    λ w start h i gr.
+    c.pass_through.ensures.grows w start (stage_covered g.R.TableRow.table_of g.R.RowRef.shown (world c.args.self.now) w (values_in c.args.slots.now) c.args.pipe.now h) (source_covered g.R.TableRow.table_of g.R.RowRef.shown (world c.args.self.now) w (values_in c.args.slots.now) c.args.pipe.now h) (slots_pass g.R.TableRow.table_of g.R.RowRef.shown (world c.args.self.now) w (values_in c.args.slots.now) c.args.pipe.now h)
+    (ap (λ p. has_watched_rows w (pulled_value p)) (sym c.in-Item.is) ∙ i) gr
+
+pub tally_next-returns-in_err-outcome-in-Item-clause-grows : goal.tally_next-returns-in_err-outcome-in-Item-clause-grows
+tally_next-returns-in_err-outcome-in-Item-clause-grows g t c =
+    λ w start h i gr.
+    c.pass_through.ensures.grows w start (stage_covered g.R.TableRow.table_of g.R.RowRef.shown (world c.args.self.now) w (values_in c.args.slots.now) c.args.pipe.now h) (source_covered g.R.TableRow.table_of g.R.RowRef.shown (world c.args.self.now) w (values_in c.args.slots.now) c.args.pipe.now h) (slots_pass g.R.TableRow.table_of g.R.RowRef.shown (world c.args.self.now) w (values_in c.args.slots.now) c.args.pipe.now h)
+    (ap (λ p. has_watched_rows w (pulled_value p)) (sym c.in-Item.is) ∙ i) gr
+
+pub add_next-returns-in-Some-clause-meant : goal.add_next-returns-in-Some-clause-meant
+add_next-returns-in-Some-clause-meant g t c =
+    gathers_as (first_keys same_values) _ _ _ _ c.add_cell.result ((ap (λ p. comes g.R.TableRow.table_of g.R.RowRef.shown (world c.args.self.now) (values_in c.args.slots.now) c.args.pipe.now (pulled_value p)) c.in-Row.is ∙ row_says g.R.TableRow.table_of g.R.RowRef.shown (world c.args.self.now) (values_in c.args.slots.now) c.args.pipe.now.stage c.args.pipe.now.source.now c.args.pipe.now.plan c.requires.planned c.in-Row.row true (subst (λ p. IsPulled g.R.TableRow.table_of g.R.RowRef.shown c.args.pipe.now.plan p) c.in-Row.is c.requires.pulled)) ∙ cell_comes g.R.TableRow.table_of g.R.RowRef.shown (world c.args.self.now) (values_in c.args.slots.now) c.args.pipe.now c.in-Row.row c.in-Some.cell c.requires.planned (subst (λ p. IsPulled g.R.TableRow.table_of g.R.RowRef.shown c.args.pipe.now.plan p) c.in-Row.is c.requires.pulled) c.in-Some.ensures) c.add_cell.ensures
+
+pub add_next-returns-in_ok-step-in-None-clause-meant : goal.add_next-returns-in_ok-step-in-None-clause-meant
+add_next-returns-in_ok-step-in-None-clause-meant g t c =
+    c.add_step.ensures _ (subst (λ (s : Stream (Value _)). GivesStep s c.in_ok-step-in-None.step) (sym (ap (λ p. comes g.R.TableRow.table_of g.R.RowRef.shown (world c.args.self.now) (values_in c.args.slots.now) c.args.pipe.now (pulled_value p)) c.in-Row.is ∙ row_says g.R.TableRow.table_of g.R.RowRef.shown (world c.args.self.now) (values_in c.args.slots.now) c.args.pipe.now.stage c.args.pipe.now.source.now c.args.pipe.now.plan c.requires.planned c.in-Row.row true (subst (λ p. IsPulled g.R.TableRow.table_of g.R.RowRef.shown c.args.pipe.now.plan p) c.in-Row.is c.requires.pulled))) c.in_ok-step-in-None.ensures.meant)
+
+pub add_next-returns-in_ok-outcome-in-Item-clause-meant : goal.add_next-returns-in_ok-outcome-in-Item-clause-meant
+add_next-returns-in_ok-outcome-in-Item-clause-meant g t c =
+    gathers_as (first_keys same_values) _ _ _ _ c.add_outcome.result ((ap (λ p. comes g.R.TableRow.table_of g.R.RowRef.shown (world c.args.self.now) (values_in c.args.slots.now) c.args.pipe.now (pulled_value p)) c.in-Item.is) ∙ sym c.in_ok-outcome-in-Item.ensures.meant) c.add_outcome.ensures
+
+pub add_next-returns-in_ok-step-in-None-clause-grows : goal.add_next-returns-in_ok-step-in-None-clause-grows
+add_next-returns-in_ok-step-in-None-clause-grows g t c =
+    λ w start h i gr.
+    c.pass_row.ensures.grows w start (stage_covered g.R.TableRow.table_of g.R.RowRef.shown (world c.args.self.now) w (values_in c.args.slots.now) c.args.pipe.now h) (slots_pass g.R.TableRow.table_of g.R.RowRef.shown (world c.args.self.now) w (values_in c.args.slots.now) c.args.pipe.now h) (row_passes w (pulled_value c.args.pulled) c.in-Row.row (ap pulled_value c.in-Row.is) i) gr
+
+pub add_next-returns-in_ok-outcome-in-Item-clause-grows : goal.add_next-returns-in_ok-outcome-in-Item-clause-grows
+add_next-returns-in_ok-outcome-in-Item-clause-grows g t c =
+    λ w start h i gr.
+    c.pass_item.ensures.grows w start (stage_covered g.R.TableRow.table_of g.R.RowRef.shown (world c.args.self.now) w (values_in c.args.slots.now) c.args.pipe.now h) (source_covered g.R.TableRow.table_of g.R.RowRef.shown (world c.args.self.now) w (values_in c.args.slots.now) c.args.pipe.now h) (slots_pass g.R.TableRow.table_of g.R.RowRef.shown (world c.args.self.now) w (values_in c.args.slots.now) c.args.pipe.now h) (ap (λ p. has_watched_rows w (pulled_value p)) (sym c.in-Item.is) ∙ i) gr
+
+pub add_next-returns-in_err-step-in-None-clause-grows : goal.add_next-returns-in_err-step-in-None-clause-grows
+add_next-returns-in_err-step-in-None-clause-grows g t c =
+    λ w start h i gr.
+    c.pass_row.ensures.grows w start (stage_covered g.R.TableRow.table_of g.R.RowRef.shown (world c.args.self.now) w (values_in c.args.slots.now) c.args.pipe.now h) (slots_pass g.R.TableRow.table_of g.R.RowRef.shown (world c.args.self.now) w (values_in c.args.slots.now) c.args.pipe.now h) (row_passes w (pulled_value c.args.pulled) c.in-Row.row (ap pulled_value c.in-Row.is) i) gr
+
+pub add_next-returns-in_err-outcome-in-Item-clause-grows : goal.add_next-returns-in_err-outcome-in-Item-clause-grows
+add_next-returns-in_err-outcome-in-Item-clause-grows g t c =
+    λ w start h i gr.
+    c.pass_item.ensures.grows w start (stage_covered g.R.TableRow.table_of g.R.RowRef.shown (world c.args.self.now) w (values_in c.args.slots.now) c.args.pipe.now h) (source_covered g.R.TableRow.table_of g.R.RowRef.shown (world c.args.self.now) w (values_in c.args.slots.now) c.args.pipe.now h) (slots_pass g.R.TableRow.table_of g.R.RowRef.shown (world c.args.self.now) w (values_in c.args.slots.now) c.args.pipe.now h) (ap (λ p. has_watched_rows w (pulled_value p)) (sym c.in-Item.is) ∙ i) gr
+
+pub given-returns-in-Ok-clause-meant : goal.given-returns-in-Ok-clause-meant
+given-returns-in-Ok-clause-meant g t c =
+    given_answer (world c.args.self.now) c.args.method c.args.source.now c.args.argument.now (values_in c.args.slots.now) _ _ c.has_item.result (c.in_ok-argument.ensures _ c.evaluate.ensures.meant) c.in_ok-pipe.ensures.items
+    (subst (λ m. IsAnswer (given_meaning (world c.args.self.now) m c.in_ok-argument.argument (all_items (world c.args.self.now) (values_in c.args.slots.now) c.in_ok-pipe.pipe)) c.has_item.result) (sym c.in-Contains.is)
+    (subst (λ a. IsAnswer (given_meaning (world c.args.self.now) of_given.Contains a (all_items (world c.args.self.now) (values_in c.args.slots.now) c.in_ok-pipe.pipe)) c.has_item.result) (sym c.in-Ok.is) c.has_item.ensures.meant))
+
+pub given-returns-clause-meant : goal.given-returns-clause-meant
+given-returns-clause-meant g t c =
+    given_answer (world c.args.self.now) c.args.method c.args.source.now c.args.argument.now (values_in c.args.slots.now) _ _ c.given.result (c.in_ok-argument.ensures _ c.evaluate.ensures.meant) c.in_ok-pipe.ensures.items
+    (subst (λ m. IsAnswer m c.given.result) (given_read (world c.args.self.now) c.args.method c.in_ok-argument.argument _ _ _ c.given_limit.ensures c.in_ok-items-in_default.ensures.meant) (c.given.ensures (world c.args.self.now) refl))
+
+pub given-returns-in-Ok-clause-grows : goal.given-returns-in-Ok-clause-grows
+given-returns-in-Ok-clause-grows g t c =
+    λ w start h k s gr.
+    c.has_item.ensures.grows w start (covered_as (world c.args.self.now) w _ _ c.in_ok-pipe.ensures.source h) (stage_as (world c.args.self.now) w _ _ c.in_ok-pipe.ensures.stage refl) s (c.evaluate.ensures.grows w start k s gr)
+
+pub given-returns-clause-grows : goal.given-returns-clause-grows
+given-returns-clause-grows g t c =
+    λ w start h k s gr.
+    c.read.ensures.grows w start (covered_as (world c.args.self.now) w _ _ c.in_ok-pipe.ensures.source h) (stage_as (world c.args.self.now) w _ _ c.in_ok-pipe.ensures.stage refl) s (c.evaluate.ensures.grows w start k s gr)
+
+pub given-returns-in_err-items-in_default-clause-grows : goal.given-returns-in_err-items-in_default-clause-grows
+given-returns-in_err-items-in_default-clause-grows g t c =
+    λ w start h k s gr.
+    c.read.ensures.grows w start (covered_as (world c.args.self.now) w _ _ c.in_ok-pipe.ensures.source h) (stage_as (world c.args.self.now) w _ _ c.in_ok-pipe.ensures.stage refl) s (c.evaluate.ensures.grows w start k s gr)
+
+pub given-returns-in-Contains-clause-meant : goal.given-returns-in-Contains-clause-meant
+given-returns-in-Contains-clause-meant g t c =
+    given_answer (world c.args.self.now) c.args.method c.args.source.now c.args.argument.now (values_in c.args.slots.now) _ _ (Err (error.Fault c.in-Err.fault)) (c.in_ok-argument.ensures _ c.evaluate.ensures.meant) c.in_ok-pipe.ensures.items
+    (subst (λ m. IsAnswer (given_meaning (world c.args.self.now) m c.in_ok-argument.argument (all_items (world c.args.self.now) (values_in c.args.slots.now) c.in_ok-pipe.pipe)) (Err (error.Fault c.in-Err.fault))) (sym c.in-Contains.is)
+    (subst (λ a. IsAnswer (given_meaning (world c.args.self.now) of_given.Contains a (all_items (world c.args.self.now) (values_in c.args.slots.now) c.in_ok-pipe.pipe)) (Err (error.Fault c.in-Err.fault))) (sym c.in-Err.is) refl))
+
+pub join_item-returns-else-joined-clause-meant : goal.join_item-returns-else-joined-clause-meant
+join_item-returns-else-joined-clause-meant g t c =
+    joined_met (world c.args.self.now) (values_in c.args.slots.now) c.args.joined.now (pairs_of c.args.matches.now) c.args.item.now _ c.in-Ok.key c.args.values.now c.join_matches.new.values _ c.join_matches.result c.with-deeper.ensures
+    (sym c.in-Ok.is ∙ c.in_ok-key.ensures.meant ∙ ap (λ f. value_of_item (world c.args.self.now) f c.args.slots.now c.args.item.now) c.requires.outer)
+    (met_as c.args.matches.now c.in-Ok.key (value_of_item (world c.args.self.now) c.args.joined.now.result c.with-deeper.result) c.args.values.now (world c.args.self.now) c.args.joined.now.grouped false _ _ c.join_matches.result c.if-joined.false c.join_matches.ensures.meant)
+
+pub join_item-returns-else-joined-clause-grows : goal.join_item-returns-else-joined-clause-grows
+join_item-returns-else-joined-clause-grows g t c =
+    λ w start h m s i gr.
+    c.join_matches.ensures.grows w start (join_result (world c.args.self.now) w c.args.joined.now h) m (slot_more w (values_in c.args.slots.now) _ _ c.with-deeper.ensures s i)
+    (c.value_by.ensures.grows w start (covered_as (world c.args.self.now) w _ _ c.requires.outer (join_outer_key (world c.args.self.now) w c.args.joined.now h)) s i gr)
+
+pub join_item-returns-then-joined-clause-meant : goal.join_item-returns-then-joined-clause-meant
+join_item-returns-then-joined-clause-meant g t c =
+    joined_met (world c.args.self.now) (values_in c.args.slots.now) c.args.joined.now (pairs_of c.args.matches.now) c.args.item.now _ c.in-Ok.key c.args.values.now c.join_group.new.values _ c.join_group.result c.with-deeper.ensures
+    (sym c.in-Ok.is ∙ c.in_ok-key.ensures.meant ∙ ap (λ f. value_of_item (world c.args.self.now) f c.args.slots.now c.args.item.now) c.requires.outer)
+    (met_as c.args.matches.now c.in-Ok.key (value_of_item (world c.args.self.now) c.args.joined.now.result c.with-deeper.result) c.args.values.now (world c.args.self.now) c.args.joined.now.grouped true _ _ c.join_group.result c.if-joined.true c.join_group.ensures.meant)
+
+pub join_item-returns-then-joined-clause-grows : goal.join_item-returns-then-joined-clause-grows
+join_item-returns-then-joined-clause-grows g t c =
+    λ w start h m s i gr.
+    c.join_group.ensures.grows w start (join_result (world c.args.self.now) w c.args.joined.now h) m (slot_more w (values_in c.args.slots.now) _ _ c.with-deeper.ensures s i)
+    (c.value_by.ensures.grows w start (covered_as (world c.args.self.now) w _ _ c.requires.outer (join_outer_key (world c.args.self.now) w c.args.joined.now h)) s i gr)
+
+pub join_matches-loop-place-preserved : goal.join_matches-loop-place-preserved
+join_matches-loop-place-preserved g t c =
+    record {
+      meant = given_on c.args.matches.now c.args.key.now (value_of_item (world c.args.self.now) c.args.body.now c.args.slots.now) _ _ _ c.loop-place.values _ _ _ c.loop-place-test.true
+          (ap (λ b. value_of_item (world c.args.self.now) b c.args.slots.now) c.lambda-lambda.ensures.body) c.in_ok-ending.ensures.meant
+          c.in-Done.is c.loop-place.invariant.meant;
+      grows = λ w start h m s gr.
+          c.join_place.ensures.grows w start (covered_as (world c.args.self.now) w _ _ c.lambda-lambda.ensures.body h)
+          (watched_at c.args.matches.now c.args.key.now (world c.args.self.now) w _ _ c.in_ok-places.ensures m c.loop-place-test.true) s
+          (c.loop-place.invariant.grows w start h m s gr);
+    }
+
+pub join_matches-returns-in-Fault-clause-meant : goal.join_matches-returns-in-Fault-clause-meant
+join_matches-returns-in-Fault-clause-meant g t c =
+    given_stopped c.args.matches.now c.args.key.now (value_of_item (world c.args.self.now) c.args.body.now c.args.slots.now) _ _ _ c.loop-place.values _ _ _ _ c.loop-place-test.true
+    (ap (λ b. value_of_item (world c.args.self.now) b c.args.slots.now) c.lambda-lambda.ensures.body) c.in_ok-ending.ensures.meant
+    c.in-Fault.is c.loop-place.invariant.meant
+
+pub join_matches-returns-in-Fault-clause-grows : goal.join_matches-returns-in-Fault-clause-grows
+join_matches-returns-in-Fault-clause-grows g t c =
+    λ w start h m s gr.
+    c.join_place.ensures.grows w start (covered_as (world c.args.self.now) w _ _ c.lambda-lambda.ensures.body h)
+    (watched_at c.args.matches.now c.args.key.now (world c.args.self.now) w _ _ c.in_ok-places.ensures m c.loop-place-test.true) s
+    (c.loop-place.invariant.grows w start h m s gr)
+
+pub join_matches-returns-in_err-ending-clause-grows : goal.join_matches-returns-in_err-ending-clause-grows
+join_matches-returns-in_err-ending-clause-grows g t c =
+    λ w start h m s gr.
+    c.join_place.ensures.grows w start (covered_as (world c.args.self.now) w _ _ c.lambda-lambda.ensures.body h)
+    (watched_at c.args.matches.now c.args.key.now (world c.args.self.now) w _ _ c.in_ok-places.ensures m c.loop-place-test.true) s
+    (c.loop-place.invariant.grows w start h m s gr)
+
+pub join_place-returns-in_ok-met-in-Some-clause-meant : goal.join_place-returns-in_ok-met-in-Some-clause-meant
+join_place-returns-in_ok-met-in-Some-clause-meant g t c =
+    met_there c.args.matches.now c.args.key.now (value_of_item (world c.args.self.now) c.args.lambda.now.body.now c.args.slots.now) c.args.values.now c.args.place _ c.in-Some.inner _ c.push_met.new.values _ c.push_met.result
+    c.item.ensures c.in-Some.is c.in_ok-met-in-Some.ensures.meant c.push_met.ensures
+
+pub join_place-returns-in-None-clause-meant : goal.join_place-returns-in-None-clause-meant
+join_place-returns-in-None-clause-meant g t c =
+    none_there c.args.matches.now c.args.key.now (value_of_item (world c.args.self.now) c.args.lambda.now.body.now c.args.slots.now) c.args.values.now c.args.place _
+    c.item.ensures c.in-None.is
+
+pub join_place-returns-in_ok-met-in-Some-clause-grows : goal.join_place-returns-in_ok-met-in-Some-clause-grows
+join_place-returns-in_ok-met-in-Some-clause-grows g t c =
+    λ w start h i s gr.
+    c.value_by.ensures.grows w start h s (watched_there c.args.matches.now c.args.key.now w c.args.place _ c.in-Some.inner c.item.ensures c.in-Some.is i) gr
+
+pub join_place-returns-in_err-met-in-Some-clause-grows : goal.join_place-returns-in_err-met-in-Some-clause-grows
+join_place-returns-in_err-met-in-Some-clause-grows g t c =
+    λ w start h i s gr.
+    c.value_by.ensures.grows w start h s (watched_there c.args.matches.now c.args.key.now w c.args.place _ c.in-Some.inner c.item.ensures c.in-Some.is i) gr
+
+pub simple-returns-in_ok-pipe-in-Some-clause-meant : goal.simple-returns-in_ok-pipe-in-Some-clause-meant
+simple-returns-in_ok-pipe-in-Some-clause-meant g t c =
+    subst (λ s. IsAnswer (simple_meaning c.args.method c.args.of.now s) c.simple_items.result)
+    (c.in_ok-pipe-in-Some.ensures.items ∙ stage_items (world c.args.self.now) (values_in c.args.slots.now) c.in-Some.stage c.args.source.now c.in-Some.source.now c.in-Some.ensures.stage) c.simple_items.ensures.meant
+
+pub simple_items-returns-in_ok-items-in-None-clause-meant : goal.simple_items-returns-in_ok-items-in-None-clause-meant
+simple_items-returns-in_ok-items-in-None-clause-meant g t c =
+    subst (λ m. IsAnswer m c.simple.result) (simple_read c.args.method _ c.args.of.now _ _ c.simple_limit.ensures c.in_ok-items-in-None.ensures.meant) c.simple.ensures
+
+pub simple-returns-in_ok-pipe-in-None-clause-meant : goal.simple-returns-in_ok-pipe-in-None-clause-meant
+simple-returns-in_ok-pipe-in-None-clause-meant g t c =
+    subst (λ s. IsAnswer (simple_meaning c.args.method c.args.of.now s) c.simple_items-in-None.result) c.in_ok-pipe-in-None.ensures.items c.simple_items-in-None.ensures.meant
+
+pub simple-returns-in_ok-pipe-in-Some-clause-grows : goal.simple-returns-in_ok-pipe-in-Some-clause-grows
+simple-returns-in_ok-pipe-in-Some-clause-grows g t c =
+    λ w start h s gr.
+    c.simple_items.ensures.grows w start (covered_as (world c.args.self.now) w _ _ c.in_ok-pipe-in-Some.ensures.source (source_of (world c.args.self.now) w c.in-Some.stage c.args.source.now c.in-Some.source.now c.in-Some.ensures.stage h))
+    (stage_as (world c.args.self.now) w _ _ c.in_ok-pipe-in-Some.ensures.stage (stage_over (world c.args.self.now) w c.in-Some.stage c.args.source.now c.in-Some.source.now c.in-Some.ensures.stage h)) s gr
+
+pub simple-returns-in_ok-pipe-in-None-clause-grows : goal.simple-returns-in_ok-pipe-in-None-clause-grows
+simple-returns-in_ok-pipe-in-None-clause-grows g t c =
+    λ w start h s gr.
+    c.simple_items-in-None.ensures.grows w start (covered_as (world c.args.self.now) w _ _ c.in_ok-pipe-in-None.ensures.source h) (stage_as (world c.args.self.now) w _ _ c.in_ok-pipe-in-None.ensures.stage refl) s gr

@@ -1,15 +1,15 @@
 -- What each function of the running goes down by: the size of the form, and at one size how far the function stands from `evaluate`; and
 -- what each loop keeps.
-use Rattle.std.proofs.Common.{◌≡◌, ◌+◌, ◌*◌, ◌++◌, List, None, Some, Ok, length, map, max, drop, true}
+use Rattle.std.proofs.Common.{◌≡◌, ◌+◌, ◌*◌, ◌++◌, List, None, Some, Ok, length, map, max, drop, true, false}
 use Rattle.lq_host.specs.declared.call.Call.{Call}
 use Rattle.lq_language.specs.Arrangement.{all_of}
 use Rattle.lq_language.specs.Operations.{on_ok}
 use Rattle.lq_language.specs.Enumerable.{all, contains}
-use Rattle.lq_language.specs.Stream.{one, select_by, then_ending}
+use Rattle.lq_language.specs.Stream.{select_by, then_ending, first_keys, groups_of}
 use Rattle.lq_value.specs.SameAndOrder.{same_values}
 use Rattle.lq_value.specs.declared.value.End.TheVariants as end
 use Rattle.lq_tree.specs.declared.tree.Form.{size-Form}
-use Rattle.lq_tree.specs.FormMeaning.{members_of}
+use Rattle.lq_tree.specs.FormMeaning.{members_of, matched}
 use Rattle.lq_tree.specs.Watches.{Watch, are_covered_fields, are_covered_keys, have_watched_rows, is_covered, is_covered_join}
 use Rattle.lq_operators.specs.Firsts.{firsts_in}
 use Rattle.lq_operators.specs.Groups.{groups_in}
@@ -26,13 +26,13 @@ use Rattle.lq_plan.specs.Pulling.{through_select, through_stage}
 use Rattle.lq_plan.specs.Slots.{values_in}
 use Rattle.lq_plan.specs.Watching.{facts, matches_pass, watches}
 use Rattle.lq_pipe.specs.Handing.{Passes}
-use Rattle.lq_pipe.specs.Items.{item_expansion, item_join, key_and_element, keys_and_elements, stream_expansion, stream_join}
+use Rattle.lq_pipe.specs.Items.{item_expansion, item_join, keys_and_elements, stream_expansion, stream_join}
 use Rattle.lq_pipe.specs.Runs.{Grown, HasTaken, covers, covers_stage, world}
-use Rattle.lq_pipe.proofs.GroupLemmas.{Firsts, Grouped}
 use Rattle.lq_pipe.proofs.LogLemmas.{Covers, Keeps}
 use Rattle.lq_pipe.proofs.PullLaws.{Comes}
 use Rattle.lq_pipe.proofs.Sizes.{pipe_size, stage_size}
-use Rattle.lq_pipe.proofs.StreamLemmas.{Goes}
+use Rattle.lq_pipe.proofs.JoinLemmas.{GivesAt}
+use Rattle.lq_pipe.proofs.GatherLemmas.{Gathered}
 use Rattle.lq_pipe.proofs.running.Running.+running.Given as goal
 
 abbrev pub decreases-evaluate : goal.decreases-evaluate
@@ -58,9 +58,6 @@ decreases-value_of_item g l = 32 * size-Form l.body.now + 2
 
 abbrev pub decreases-value_by : goal.decreases-value_by
 decreases-value_by g l = 32 * size-Form l.lambda.now.body.now + 3
-
-abbrev pub decreases-select_all : goal.decreases-select_all
-decreases-select_all g l = 32 * size-Form l.body.now + 4
 
 abbrev pub decreases-holds : goal.decreases-holds
 decreases-holds g l = 32 * size-Form l.condition.now + 6
@@ -119,17 +116,35 @@ decreases-key_pairs g l = 32 * max (size-Form l.source.now) (size-Form l.key.now
 abbrev pub decreases-join_item : goal.decreases-join_item
 decreases-join_item g l = 32 * goal.size-join_item g l + 8
 
+abbrev pub decreases-join_matches : goal.decreases-join_matches
+decreases-join_matches g l = 32 * size-Form l.body.now + 5
+
+abbrev pub decreases-join_place : goal.decreases-join_place
+decreases-join_place g l = 32 * size-Form l.lambda.now.body.now + 4
+
+abbrev pub decreases-join_group : goal.decreases-join_group
+decreases-join_group g l = 32 * size-Form l.body.now + 5
+
 abbrev pub decreases-join : goal.decreases-join
 decreases-join g l = 32 * max (goal.size-join g l) (size-Form l.source.now) + 20
 
 abbrev pub decreases-key_and_element : goal.decreases-key_and_element
-decreases-key_and_element g l = 32 * max (size-Form l.key.now.body.now) (size-Form l.element.now.body.now) + 4
+decreases-key_and_element g l = 32 * max (size-Form l.key.now.body.now) (size-Form l.element.now.body.now) + 5
+
+abbrev pub decreases-group_item : goal.decreases-group_item
+decreases-group_item g l = 32 * max (size-Form l.key.now.body.now) (size-Form l.element.now.body.now) + 8
+
+abbrev pub decreases-group_next : goal.decreases-group_next
+decreases-group_next g l = 32 * max (pipe_size l.pipe.now) (max (size-Form l.key.now.body.now) (size-Form l.element.now.body.now)) + 14
 
 abbrev pub decreases-grouped : goal.decreases-grouped
 decreases-grouped g l = 32 * max (pipe_size l.pipe.now) (max (size-Form l.key.now.body.now) (size-Form l.element.now.body.now)) + 16
 
 abbrev pub decreases-key_of : goal.decreases-key_of
 decreases-key_of g l = 32 * size-Form l.key.now.body.now + 5
+
+abbrev pub decreases-add_next : goal.decreases-add_next
+decreases-add_next g l = 32 * pipe_size l.pipe.now + 15
 
 abbrev pub decreases-distinct : goal.decreases-distinct
 decreases-distinct g l = 32 * pipe_size l.pipe.now + 16
@@ -161,14 +176,14 @@ decreases-open g l = 32 * size-Form l.form.now + 6
 abbrev pub decreases-pass : goal.decreases-pass
 decreases-pass g l = 32 * size-Form l.form.now
 
-abbrev pub decreases-pass_select : goal.decreases-pass_select
-decreases-pass_select g l = 32 * size-Form l.body.now + 4
-
 abbrev pub decreases-pass_stage : goal.decreases-pass_stage
 decreases-pass_stage g l = 32 * stage_size l.stage.now + 10
 
 abbrev pub decreases-pass_through : goal.decreases-pass_through
 decreases-pass_through g l = 32 * max (size-Form l.source.now) (stage_size l.stage.now) + 12
+
+abbrev pub decreases-pass_item : goal.decreases-pass_item
+decreases-pass_item g l = 32 * pipe_size l.pipe.now + 13
 
 abbrev pub decreases-next : goal.decreases-next
 decreases-next g l = 32 * pipe_size l.pipe.now + 14
@@ -179,20 +194,11 @@ decreases-tally g l = 32 * pipe_size l.pipe.now + 17
 abbrev pub decreases-tally_pulled : goal.decreases-tally_pulled
 decreases-tally_pulled g l = 32 * pipe_size l.pipe.now + 16
 
-abbrev pub decreases-tally_select : goal.decreases-tally_select
-decreases-tally_select g l = 32 * size-Form l.body.now + 4
-
 abbrev pub decreases-tally_row : goal.decreases-tally_row
 decreases-tally_row g l = 32 * stage_size l.pipe.now.stage + 5
 
-abbrev pub decreases-tally_through : goal.decreases-tally_through
-decreases-tally_through g l = 32 * max (size-Form l.source.now) (stage_size l.stage.now) + 13
-
 abbrev pub decreases-tally_next : goal.decreases-tally_next
 decreases-tally_next g l = 32 * pipe_size l.pipe.now + 14
-
-abbrev pub decreases-give : goal.decreases-give
-decreases-give g l = 32 * size-Form l.body.now + 4
 
 abbrev pub decreases-tally_item : goal.decreases-tally_item
 decreases-tally_item g l = 32 * stage_size l.stage.now + 8
@@ -218,9 +224,6 @@ decreases-simple_items g l = 32 * pipe_size l.pipe.now + 18
 abbrev pub decreases-read : goal.decreases-read
 decreases-read g l = 32 * pipe_size l.pipe.now + 16
 
-abbrev pub decreases-given_items : goal.decreases-given_items
-decreases-given_items g l = 32 * pipe_size l.pipe.now + 18
-
 abbrev pub decreases-all_hold : goal.decreases-all_hold
 decreases-all_hold g l = 32 * max (pipe_size l.pipe.now) (size-Form l.condition.now) + 16
 
@@ -231,15 +234,6 @@ abbrev pub decreases-pass_row : goal.decreases-pass_row
 decreases-pass_row g l = 32 * stage_size l.pipe.now.stage + 5
 
 -- ---- loops
-
--- what was made, and what comes of the items that are left
-abbrev pub invariant-select_all-loop-item : goal.invariant-select_all-loop-item
-invariant-select_all-loop-item g l =
-    record {
-      meant : Goes (λ v. one (value_of_item (world l.fn.self) l.fn.body l.fn.slots v)) l.items end.Done
-          (select_by (value_of_item (world l.fn.self) l.fn.body l.fn.slots) l.items end.Done) l.values l.item-index;
-      grows : ((w : Watch _) (start : List Call) → covers l.fn.self w l.fn.body ≡ true → watches w l.fn.slots ≡ true → have_watched_rows w l.items ≡ true → Grown l.fn.self w start l.fn.log → Grown l.fn.self w start l.log);
-    }
 
 -- the tally so far comes to the same over what comes of the items that are left
 abbrev pub invariant-tally_items-loop-item : goal.invariant-tally_items-loop-item
@@ -256,6 +250,15 @@ invariant-tally_lambda-loop-item g l =
       meant : tallied l.fn.of l.tally (through_select (world l.fn.self) (values_in l.fn.slots) l.fn.lambda.body.now (drop l.item-index l.items, l.fn.end))
           ≡ tallied l.fn.of l.fn.tally (through_select (world l.fn.self) (values_in l.fn.slots) l.fn.lambda.body.now (l.items, l.fn.end));
       grows : ((w : Watch _) (start : List Call) → covers l.fn.self w l.fn.lambda.body.now ≡ true → watches w l.fn.slots ≡ true → have_watched_rows w l.items ≡ true → Grown l.fn.self w start l.fn.log → Grown l.fn.self w start l.log);
+    }
+
+-- what was made, and what a lambda gives of the inner items at the places that are left
+abbrev pub invariant-join_matches-loop-place : goal.invariant-join_matches-loop-place
+invariant-join_matches-loop-place g l =
+    record {
+      meant : GivesAt l.fn.matches l.fn.key (value_of_item (world l.fn.self) l.fn.body l.fn.slots) l.places
+          (then_ending l.fn.values end.Done (select_by (value_of_item (world l.fn.self) l.fn.body l.fn.slots) (matched (world l.fn.self) false l.fn.key (pairs_of l.fn.matches)) end.Done)) l.values l.place-index;
+      grows : ((w : Watch _) (start : List Call) → covers l.fn.self w l.fn.body ≡ true → matches_pass w (pairs_of l.fn.matches) ≡ true → watches w l.fn.slots ≡ true → Grown l.fn.self w start l.fn.log → Grown l.fn.self w start l.log);
     }
 
 -- the members so far, and those that are left
@@ -384,24 +387,24 @@ abbrev pub decreases-key_pairs-loop-pairs : goal.decreases-key_pairs-loop-pairs
 decreases-key_pairs-loop-pairs g l = length (items_left (world l.fn.self) (values_in l.fn.slots) l.pipe l.base).0
 
 -- the groups so far are those of the pairs so far
-abbrev pub invariant-grouped-loop-grouping : goal.invariant-grouped-loop-grouping
-invariant-grouped-loop-grouping g l =
+abbrev pub invariant-grouped-loop-pulled : goal.invariant-grouped-loop-pulled
+invariant-grouped-loop-pulled g l =
     record {
-      meant : Grouped (key_and_element (world l.fn.self) (values_in l.fn.slots) l.fn.key.body.now (Some l.fn.element.body)) (groups_in l.grouping) (items_left (world l.fn.self) (values_in l.fn.slots) l.fn.pipe l.base)
+      meant : Gathered (groups_of same_values) (groups_in l.grouping) (keys_and_elements (world l.fn.self) (values_in l.fn.slots) l.fn.key.body.now (Some l.fn.element.body) (items_left (world l.fn.self) (values_in l.fn.slots) l.fn.pipe l.base))
           (keys_and_elements (world l.fn.self) (values_in l.fn.slots) l.fn.key.body.now (Some l.fn.element.body) (all_items (world l.fn.self) (values_in l.fn.slots) l.fn.pipe));
       log : Keeps (world l.fn.self) (facts l.fn.self.sources) g.R.TableRow.table_of g.R.RowRef.shown (values_in l.fn.slots) l.fn.pipe (λ w. Covers (world l.fn.self) (values_in l.fn.slots) l.fn.pipe w × (is_covered (world l.fn.self) w l.fn.key.body.now ≡ true) × (is_covered (world l.fn.self) w l.fn.element.body.now ≡ true)) l.fn.log l.log l.base;
     }
 
-abbrev pub decreases-grouped-loop-grouping : goal.decreases-grouped-loop-grouping
-decreases-grouped-loop-grouping g l = length (items_left (world l.fn.self) (values_in l.fn.slots) l.fn.pipe l.base).0
+abbrev pub decreases-grouped-loop-pulled : goal.decreases-grouped-loop-pulled
+decreases-grouped-loop-pulled g l = length (kept_stream g.R.TableRow.table_of g.R.RowRef.shown l.fn.pipe.plan l.base).0
 
 -- the first items so far are those of the items so far
-abbrev pub invariant-distinct-loop-distinct : goal.invariant-distinct-loop-distinct
-invariant-distinct-loop-distinct g l =
+abbrev pub invariant-distinct-loop-pulled : goal.invariant-distinct-loop-pulled
+invariant-distinct-loop-pulled g l =
     record {
-      meant : Firsts (firsts_in l.distinct) (items_left (world l.fn.self) (values_in l.fn.slots) l.fn.pipe l.base) (all_items (world l.fn.self) (values_in l.fn.slots) l.fn.pipe);
+      meant : Gathered (first_keys same_values) (firsts_in l.firsts) (items_left (world l.fn.self) (values_in l.fn.slots) l.fn.pipe l.base) (all_items (world l.fn.self) (values_in l.fn.slots) l.fn.pipe);
       log : Keeps (world l.fn.self) (facts l.fn.self.sources) g.R.TableRow.table_of g.R.RowRef.shown (values_in l.fn.slots) l.fn.pipe (Covers (world l.fn.self) (values_in l.fn.slots) l.fn.pipe) l.fn.log l.log l.base;
     }
 
-abbrev pub decreases-distinct-loop-distinct : goal.decreases-distinct-loop-distinct
-decreases-distinct-loop-distinct g l = length (items_left (world l.fn.self) (values_in l.fn.slots) l.fn.pipe l.base).0
+abbrev pub decreases-distinct-loop-pulled : goal.decreases-distinct-loop-pulled
+decreases-distinct-loop-pulled g l = length (kept_stream g.R.TableRow.table_of g.R.RowRef.shown l.fn.pipe.plan l.base).0
