@@ -7,7 +7,7 @@ blocks=re.split(r'\n(?=pub )',body)
 i0=min(x for x in [inv.find('\nabbrev pub '),inv.find('\n-- ')] if x>0)
 ihead=inv[:inv.index('\nabbrev pub ')]
 iblocks=re.split(r'\n(?=(?:-- [^\n]*\n)*abbrev pub )',inv)
-files=['running','methods','tallies','operations','clauses','conditions','pulling']
+files=sorted(f[:-3] for f in os.listdir('src') if f.endswith('.rt') and '#[cycle(running)]' in open('src/'+f).read())
 src={f:open(f'src/{f}.rt').read() for f in files}
 fns={}
 for f in files:
@@ -100,7 +100,7 @@ for l in heads:
 text='\n'.join(body)+HEADER
 use=[]
 for (mod,n) in names:
-    if mod.startswith('crate'): continue
+    if mod.startswith('crate') and (n=='Running' or not n[0].isupper()): continue
     if re.search(rf'\b{n}\b',text): use.append(f'use {mod}::{n};')
 open('src/stubs.rt','w').write('//! Stubs.\nuse crate::running::Running;\n'+'\n'.join(use)+'\n\n'+HEADER+'\n'+gl+'\n\n'+'\n'.join(body)+'}\n')
 t=open('src/lib.rt').read().replace('mod running;','mod running;\nmod stubs;')
