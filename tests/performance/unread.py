@@ -7,8 +7,8 @@ import measuring
 from measuring import Failure
 
 ROWS = 20_000
-# Of a line, over one that reads nothing of the table. An order takes some 3,000 for each row, which is 60 million.
-MOST_INSTRUCTIONS = 1_000_000
+# Of a line, over one that reads nothing of the table. The first item of an order takes over 100 for each row, which is more than two million.
+MOST_INSTRUCTIONS = 200_000
 # The least that an order takes, in these bounds: if it took less, they would not tell whether it is evaluated.
 LEAST_TIMES = 10
 NOTHING = ("unread.Take(0)", '{"items":[]}')

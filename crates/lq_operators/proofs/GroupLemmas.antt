@@ -31,24 +31,24 @@ module _ {A : Type 0} where
 
 module _ {A : Type 0} (test : A → Bool) where
   -- what passes at a place stands there
-  passes_within : (xs : List A) (n : ℕ) → passes_at test xs n ≡ true → n < length xs
+  pub passes_within : (xs : List A) (n : ℕ) → passes_at test xs n ≡ true → n < length xs
   passes_within [] n h = absurd (true≢false (sym h))
   passes_within (x ∷ xs) zero h = omega arith
   passes_within (x ∷ xs) (suc n) h = let rest = passes_within xs n h in omega (arith, rest)
 
 -- Groups of keys, where what is the same is one key.
 module _ {K V : Type 0} (same : K → K → Bool) (told : (k l : K) → same k l ≡ true → k ≡ l) where
-  key_at : (gs : List (K × List V)) (n : ℕ) (g : K × List V) → slice_get gs n ≡ Some g → slice_get (map (λ h. h.0) gs) n ≡ Some g.0
+  key_at : (gs : List (K × V)) (n : ℕ) (g : K × V) → slice_get gs n ≡ Some g → slice_get (map (λ h. h.0) gs) n ≡ Some g.0
   key_at [] n g at = absurd (none-some g at)
-  key_at (h ∷ gs) zero g at = ap Some (ap (λ (f : K × List V). f.0) (same_Some h g at))
+  key_at (h ∷ gs) zero g at = ap Some (ap (λ (f : K × V). f.0) (same_Some h g at))
   key_at (h ∷ gs) (suc n) g at = key_at gs n g at
 
   -- where no two groups have one key, one whose key is the same as k is at its place
-  pub place_is : (gs : List (K × List V)) (k : K) (n : ℕ) (g : K × List V) → AreUnlike same (map (λ h. h.0) gs) → slice_get gs n ≡ Some g
+  pub place_is : (gs : List (K × V)) (k : K) (n : ℕ) (g : K × V) → AreUnlike same (map (λ h. h.0) gs) → slice_get gs n ≡ Some g
       → same g.0 k ≡ true → n ≡ place_in (λ h. same h.0 k) gs
   place_is [] k n g unlike at e = absurd (none-some g at)
   place_is (h ∷ gs) k zero g unlike at e =
-      sym (ap (λ (b : Bool). if b then 0 else suc (place_in (λ f. same f.0 k) gs)) (ap (λ (f : K × List V). same f.0 k) (same_Some h g at) ∙ e))
+      sym (ap (λ (b : Bool). if b then 0 else suc (place_in (λ f. same f.0 k) gs)) (ap (λ (f : K × V). same f.0 k) (same_Some h g at) ∙ e))
   place_is (h ∷ gs) k (suc n) g unlike at e = by (same h.0 k) refl (place_is gs k n g unlike.1 at e) where
     by : (b : Bool) → same h.0 k ≡ b → n ≡ place_in (λ f. same f.0 k) gs → suc n ≡ (if b then 0 else suc (place_in (λ f. same f.0 k) gs))
     by true d rest = absurd (true≢false (sym (ap (same h.0) (told g.0 k e) ∙ d) ∙ unlike_at (same h.0) (map (λ f. f.0) gs) n g.0 unlike.0 (key_at gs n g at)))
@@ -211,42 +211,28 @@ module _ {K V : Type 0} where
 
 -- ---- groups of values
 
-abbrev Groups : Type 0 → Type 0
-Groups R = List (Value R × List (Value R))
-
-abbrev is_of : {R : Type 0} → Value R → Value R × List (Value R) → Bool
+abbrev pub is_of : {R V : Type 0} → Value R → Value R × V → Bool
 is_of k group = same_values group.0 k
 
-module _ {R : Type 0} where
+module _ {R V : Type 0} where
   -- a group of the key that is met at a place is the one
-  pub near : (k : Value R) (gs : Groups R) (n : ℕ) → passes_at (is_of k) gs n ≡ true → IsPlaceOf k gs n
+  pub near : (k : Value R) (gs : List (Value R × V)) (n : ℕ) → passes_at (is_of k) gs n ≡ true → IsPlaceOf k gs n
   near k gs n h = λ unlike. by (slice_get gs n) refl h unlike where
-    by : (o : Option (Value R × List (Value R))) → slice_get gs n ≡ o → passes (is_of k) o ≡ true → AreUnlike same_values (map (λ g. g.0) gs)
+    by : (o : Option (Value R × V)) → slice_get gs n ≡ o → passes (is_of k) o ≡ true → AreUnlike same_values (map (λ g. g.0) gs)
         → n ≡ place_in (is_of k) gs
     by (Some g) at e unlike = place_is same_values one_value gs k n g unlike at e
     by None at e unlike = absurd (true≢false (sym e))
 
-  heads_are : (fs : List (Value R)) (qs : List (Value R × Value R)) → map (λ (g : Value R × List (Value R)). g.0) (map (λ k. (k, elements_of same_values k qs)) fs) ≡ fs
-  heads_are [] qs = refl
-  heads_are (f ∷ fs) qs = ap (λ (gs : List (Value R)). f ∷ gs) (heads_are fs qs)
-
-  -- no two groups of pairs have one key
-  unlike_groups : (gs : Groups R) (qs : List (Value R × Value R)) → gs ≡ groups_of same_values qs → AreUnlike same_values (map (λ g. g.0) gs)
-  unlike_groups gs qs is =
-      subst (λ (ks : List (Value R)). AreUnlike same_values ks)
-      (sym (ap (λ (hs : Groups R). map (λ g. g.0) hs) is ∙ heads_are (first_keys same_values (map (λ q. q.0) qs)) qs))
-      (unlike_firsts same_values (map (λ q. q.0) qs))
-
-  keys_behind : (gs : Groups R) (g : Value R × List (Value R)) → map (λ h. h.0) (gs ++ g ∷ []) ≡ map (λ (h : Value R × List (Value R)). h.0) gs ++ g.0 ∷ []
+  keys_behind : (gs : List (Value R × V)) (g : Value R × V) → map (λ h. h.0) (gs ++ g ∷ []) ≡ map (λ (h : Value R × V). h.0) gs ++ g.0 ∷ []
   keys_behind [] g = refl
   keys_behind (f ∷ gs) g = ap (λ (ks : List (Value R)). f.0 ∷ ks) (keys_behind gs g)
 
-  any_key : (k : Value R) (gs : Groups R) → list_any (λ v. same_values v k) (map (λ g. g.0) gs) ≡ list_any (is_of k) gs
+  any_key : (k : Value R) (gs : List (Value R × V)) → list_any (λ v. same_values v k) (map (λ g. g.0) gs) ≡ list_any (is_of k) gs
   any_key k [] = refl
   any_key k (g ∷ gs) = ap (λ (b : Bool). same_values g.0 k || b) (any_key k gs)
 
   -- the key of no group
-  pub placed_new : (keys : List Key) (gs : Groups R) (k : Value R) (l : Key) → AreKnown keys (map (λ g. g.0) gs) → l ≡ key_value k
+  pub placed_new : (keys : List Key) (gs : List (Value R × V)) (k : Value R) (l : Key) → AreKnown keys (map (λ g. g.0) gs) → l ≡ key_value k
       → not (list_any (key_is l) keys) ≡ true → IsPlaceOf k gs (length gs)
   placed_new keys gs k l known is new = λ unlike.
       sym (past_all (is_of k) gs (sym (any_key k gs) ∙ known k (ap (λ (m : Key). list_any (key_is m) keys) (sym is) ∙ off (list_any (key_is l) keys) new)))
@@ -255,6 +241,35 @@ module _ {R : Type 0} where
       off true h = absurd (true≢false (sym h))
       off false h = refl
 
+  -- whether or not there was memory for the group
+  pub known_opened : (b : Bool) (keys more : List Key) (gs hs : List (Value R × V)) (g : Value R × V) (k : Value R) (x : V)
+      → AreKnown keys (map (λ h. h.0) gs) → more ≡ with_key key_is keys (key_value k) → g ≡ (k, x) → hs ≡ (if b then gs ++ g ∷ [] else gs)
+      → AreKnown more (map (λ h. h.0) hs)
+  known_opened true keys more gs hs g k x known more_is opened is =
+      subst (λ (vs : List (Value R)). AreKnown more vs)
+      (sym (ap (λ (fs : List (Value R × V)). map (λ h. h.0) fs) (is ∙ ap (λ (h : Value R × V). gs ++ h ∷ []) opened) ∙ keys_behind gs (k, x)))
+      (subst (λ (ks : List Key). AreKnown ks (map (λ (h : Value R × V). h.0) gs ++ k ∷ [])) (sym more_is) (known_more keys (map (λ h. h.0) gs) k known))
+  known_opened false keys more gs hs g k x known more_is opened is =
+      subst (λ (fs : List (Value R × V)). AreKnown more (map (λ h. h.0) fs)) (sym is)
+      (subst (λ (ks : List Key). AreKnown ks (map (λ (h : Value R × V). h.0) gs)) (sym more_is) (known_still keys (map (λ h. h.0) gs) (key_value k) known))
+
+-- Groups of pairs.
+module _ {R V : Type 0} where
+  heads_are : (fs : List (Value R)) (qs : List (Value R × V)) → map (λ (g : Value R × List V). g.0) (map (λ k. (k, elements_of same_values k qs)) fs) ≡ fs
+  heads_are [] qs = refl
+  heads_are (f ∷ fs) qs = ap (λ (gs : List (Value R)). f ∷ gs) (heads_are fs qs)
+
+  -- no two groups of pairs have one key
+  pub unlike_groups : (gs : List (Value R × List V)) (qs : List (Value R × V)) → gs ≡ groups_of same_values qs → AreUnlike same_values (map (λ g. g.0) gs)
+  unlike_groups gs qs is =
+      subst (λ (ks : List (Value R)). AreUnlike same_values ks)
+      (sym (ap (λ (hs : List (Value R × List V)). map (λ g. g.0) hs) is ∙ heads_are (first_keys same_values (map (λ q. q.0) qs)) qs))
+      (unlike_firsts same_values (map (λ q. q.0) qs))
+
+abbrev Groups : Type 0 → Type 0
+Groups R = List (Value R × List (Value R))
+
+module _ {R : Type 0} where
   -- The place of a key is asked among some groups, which are those so far. Where there is memory for the element of a key that has
   -- a group:
   pub pair_within : {U E : Type 0} (answer : Result U E) (gs asked more : Groups R) (k x : Value R) (n : ℕ) → asked ≡ gs → IsPlaceOf k asked n
@@ -278,15 +293,3 @@ module _ {R : Type 0} where
       let place : n ≡ place_in (is_of k) asked = at (unlike_groups asked done (are ∙ is)) in
       pushed ∙ (λ i. sym are i ++ opened i ∷ []) ∙ sym (added_past same_values asked (k, x) (subst (λ (m : ℕ). length asked ≤ m) place h))
       ∙ ap (pair_added same_values (k, x)) (are ∙ is) ∙ sym (groups_more same_values one_value done (k, x))
-
-  -- whether or not there was memory for the group
-  pub known_opened : (b : Bool) (keys more : List Key) (gs hs : Groups R) (g : Value R × List (Value R)) (k : Value R) (xs : List (Value R))
-      → AreKnown keys (map (λ h. h.0) gs) → more ≡ with_key key_is keys (key_value k) → g ≡ (k, xs) → hs ≡ (if b then gs ++ g ∷ [] else gs)
-      → AreKnown more (map (λ h. h.0) hs)
-  known_opened true keys more gs hs g k xs known more_is opened is =
-      subst (λ (vs : List (Value R)). AreKnown more vs)
-      (sym (ap (λ (fs : Groups R). map (λ h. h.0) fs) (is ∙ ap (λ (h : Value R × List (Value R)). gs ++ h ∷ []) opened) ∙ keys_behind gs (k, xs)))
-      (subst (λ (ks : List Key). AreKnown ks (map (λ (h : Value R × List (Value R)). h.0) gs ++ k ∷ [])) (sym more_is) (known_more keys (map (λ h. h.0) gs) k known))
-  known_opened false keys more gs hs g k xs known more_is opened is =
-      subst (λ (fs : Groups R). AreKnown more (map (λ h. h.0) fs)) (sym is)
-      (subst (λ (ks : List Key). AreKnown ks (map (λ (h : Value R × List (Value R)). h.0) gs)) (sym more_is) (known_still keys (map (λ h. h.0) gs) (key_value k) known))

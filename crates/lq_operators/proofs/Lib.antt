@@ -1,6 +1,8 @@
 pub mod AddedLemmas
 pub mod ArgumentLemmas
 pub mod GroupLemmas
+pub mod GroupTallyLaws
+pub mod GroupTallyLemmas
 pub mod ItemLemmas
 pub mod KeyOrderLemmas
 pub mod KnownLemmas

@@ -70,6 +70,9 @@ scalar_layer R scalar.Null = refl
 scalar_layer R (scalar.Bool b) = refl
 scalar_layer R (scalar.Text x) = refl
 
+pub scalar_number : (R : Type 0) (c : Scalar) → int_in c ≡ number_in (out-Value R (value.Scalar c))
+scalar_number R c = scalar_layer R c ∙ ap number_in (sym (value.outs-Scalar c))
+
 module _ {R : Type 0} where
   numbers_on : (x : Value R) (xs : List (Value R)) (found : Option ℤ) → found ≡ number_in (out-Value R x) → numbers (x ∷ xs) ≡ cons_option found (numbers xs)
   numbers_on x xs found is = ap (λ o. cons_option o (numbers xs)) (sym is)
@@ -100,7 +103,7 @@ module _ {R : Type 0} where
   -- so is a scalar, and a row is no number
   pub scalar_on : (k : Tally) (c : Scalar) (found : Result Tally Fault) → found ≡ tally_with k (int_in c)
       → (t : Ty) (s : Stream (Value R)) → tallied t k (in_front (value.Scalar c) s) ≡ goes_on t found s
-  scalar_on k c found is = item_on k (value.Scalar c) (int_in c) found (scalar_layer R c ∙ ap number_in (sym (value.outs-Scalar c))) is
+  scalar_on k c found is = item_on k (value.Scalar c) (int_in c) found (scalar_number R c) is
 
   pub row_on : (k : Tally) (r : R) (found : Result Tally Fault) → found ≡ tally_with k None
       → (t : Ty) (s : Stream (Value R)) → tallied t k (in_front (value.Row r) s) ≡ goes_on t found s

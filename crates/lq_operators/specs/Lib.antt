@@ -1,6 +1,7 @@
 pub mod Answers
 pub mod Arguments
 pub mod Firsts
+pub mod GroupTallies
 pub mod Groups
 pub mod KeyOrder
 pub mod Leading
@@ -9,3 +10,4 @@ pub mod Moves
 pub mod Numbers
 pub mod Places
 pub mod Tallies
+pub mod TallyLaws

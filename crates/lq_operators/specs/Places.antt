@@ -39,7 +39,7 @@ module _ {A : Type 0} where
   AreUnlike same (x ∷ xs) = (list_any (same x) xs ≡ false) × AreUnlike same xs
 
 -- a place is that of the group of a key, where no two groups have one key
-abbrev pub IsPlaceOf : {R : Type 0} → Value R → List (Value R × List (Value R)) → ℕ → Type 0
+abbrev pub IsPlaceOf : {R V : Type 0} → Value R → List (Value R × V) → ℕ → Type 0
 IsPlaceOf key groups place = AreUnlike same_values (map (λ group. group.0) groups) → place ≡ place_in (λ group. same_values group.0 key) groups
 
 module _ {A B : Type 0} where

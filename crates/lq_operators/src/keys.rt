@@ -10,7 +10,7 @@ ghost use Rattle.lq_language.specs.Enumerable.{is_among};
 ghost use Rattle.lq_operators.specs.Places.{AreKnown, FindsKeys, IsPlaceOf, passes_at, place_in};
 
 use lq_lookup::{Lookup, Nulls, Numbering};
-use lq_value::{Key, List, RowRef, Scalar, Value, key_of, same};
+use lq_value::{Key, RowRef, Scalar, Value, key_of, same};
 use std::alloc::{AllocError, Global};
 
 // The keys of values.
@@ -90,6 +90,29 @@ pub(crate) fn is_other_scalar<R: RowRef>(scalar: &Scalar, values: &[Value<R>], p
     match values.get(place) {
         Some(other) => is_scalar(other, scalar),
         None => false,
+    }
+}
+
+// Whether the value at a place is the same as this scalar, which is met first.
+#[inline]
+pub(crate) fn is_scalar_at<R: RowRef>(scalar: &Scalar, values: &[Value<R>], place: usize) -> bool
+    ensures { result ≡ passes_at (same_values (value.Scalar scalar.now)) values.now place }
+{
+    match values.get(place) {
+        Some(other) => is_scalar_of(scalar, other),
+        None => false,
+    }
+}
+
+// Whether this scalar is the same as a value.
+#[inline(always)]
+#[tactic(auto, using(lq_value::proofs::SamenessLaws::sameness))]
+fn is_scalar_of<R: RowRef>(scalar: &Scalar, other: &Value<R>) -> bool
+    ensures { result ≡ same_values (value.Scalar scalar.now) other.now }
+{
+    match other {
+        Value::Scalar(other) => are_same_scalars(scalar, other),
+        _ => false,
     }
 }
 
@@ -181,10 +204,10 @@ fn is_one_same<R: RowRef>(value: &Value<R>, values: &[Value<R>]) -> bool
 
 // The place of the group of a key, past the last one where there is none. The groups' keys are among the keys, and so is this
 // one from then on.
-pub(crate) fn place_of<R: RowRef>(
+pub(crate) fn place_of<R: RowRef, V>(
     alloc: Global,
     keys: &mut Numbering,
-    groups: &[(Value<R>, List<Value<R>>)],
+    groups: &[(Value<R>, V)],
     key: &Value<R>,
 ) -> Result<usize, AllocError>
     requires { AreKnown keys.old (map (λ group. group.0) groups.now) }
@@ -201,11 +224,7 @@ pub(crate) fn place_of<R: RowRef>(
 }
 
 // The place of the group of a key, where the one at this place is likely to be it.
-fn place_near<R: RowRef>(
-    key: &Value<R>,
-    groups: &[(Value<R>, List<Value<R>>)],
-    place: usize,
-) -> usize
+fn place_near<R: RowRef, V>(key: &Value<R>, groups: &[(Value<R>, V)], place: usize) -> usize
     ensures { IsPlaceOf key.now groups.now result }
 {
     if is_group_of(key, groups, place) {
@@ -216,9 +235,9 @@ fn place_near<R: RowRef>(
 
 // Whether the group at a place is that of a key.
 #[inline]
-pub(crate) fn is_group_of<R: RowRef>(
+pub(crate) fn is_group_of<R: RowRef, V>(
     key: &Value<R>,
-    groups: &[(Value<R>, List<Value<R>>)],
+    groups: &[(Value<R>, V)],
     place: usize,
 ) -> bool
     ensures { result ≡ passes_at (λ group. same_values group.0 key.now) groups.now place }
@@ -231,9 +250,9 @@ pub(crate) fn is_group_of<R: RowRef>(
 
 // The same of a key that is this scalar.
 #[inline]
-pub(crate) fn is_group_of_scalar<R: RowRef>(
+pub(crate) fn is_group_of_scalar<R: RowRef, V>(
     key: &Scalar,
-    groups: &[(Value<R>, List<Value<R>>)],
+    groups: &[(Value<R>, V)],
     place: usize,
 ) -> bool
     ensures { result
@@ -246,7 +265,7 @@ pub(crate) fn is_group_of_scalar<R: RowRef>(
 }
 
 // The place of the first group of a key, asked one by one.
-fn first_group_of<R: RowRef>(key: &Value<R>, groups: &[(Value<R>, List<Value<R>>)]) -> usize
+fn first_group_of<R: RowRef, V>(key: &Value<R>, groups: &[(Value<R>, V)]) -> usize
     ensures { result ≡ place_in (λ group. same_values group.0 key.now) groups.now }
 {
     for (place, group) in groups.iter().enumerate() {

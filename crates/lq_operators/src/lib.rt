@@ -2,7 +2,8 @@
 //!
 //! `simple`, `given`, `Distinct`, `Matches`, `Grouping`, `group_pairs` and `sort_by_columns` give what a
 //! method, a join, a group or an arrangement means on the items and their ending, or its fault; `Tally`
-//! counts, sums and compares item by item, and `Leading` keeps the first items of an arrangement.
+//! counts, sums and compares item by item, `GroupTallies` does so for each key, which by the laws of
+//! `tally_laws` answers as the methods do, and `Leading` keeps the first items of an arrangement.
 #![tactic(auto)]
 
 mod arguments;
@@ -11,6 +12,7 @@ mod ending;
 mod error;
 mod firsts;
 mod given_methods;
+mod group_tallies;
 mod groups;
 mod hints;
 mod items;
@@ -25,10 +27,13 @@ mod sequences;
 mod sets;
 mod simple_methods;
 mod slices;
+pub mod tally_laws;
+mod tally_rows;
 
 pub use error::RunError;
 pub use firsts::Distinct;
 pub use given_methods::given;
+pub use group_tallies::GroupTallies;
 pub use groups::{Grouping, group_pairs};
 pub use leading::Leading;
 pub use matches::Matches;

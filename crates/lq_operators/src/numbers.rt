@@ -94,6 +94,7 @@ fn sum_more(total: i32, number: i32) -> Result<i32, Fault>
 }
 
 impl Tally {
+    ghost use Rattle.std.specs.Prelude.{◌≡◌, Err, IfErr, Ok, OnOk};
     /// The tally that a method begins with; none where it makes no number of its items.
     pub fn of(method: Simple) -> Option<Tally>
         ensures { result ≡ begins method }
@@ -141,6 +142,24 @@ impl Tally {
                 Ok(Tally::Best(extreme, best_more(extreme, best, number)))
             }
         }
+    }
+
+    /// Adds one item more in place, which is this number, or none at all; or the fault that is met there.
+    #[inline(always)]
+    pub(crate) fn add(&mut self, number: Option<i32>) -> Result<(), Fault>
+        ensures ok { OnOk result (tally_with self.old number ≡ Ok self.new) }
+        ensures fault { IfErr result (λ f. tally_with self.old number ≡ Err f) }
+    {
+        match self {
+            Tally::Count(count) => *count = sum_more(*count, 1)?,
+            Tally::Sum(total) => {
+                if let Some(number) = number {
+                    *total = sum_more(*total, number)?;
+                }
+            }
+            Tally::Best(extreme, best) => *best = best_more(*extreme, *best, number),
+        }
+        Ok(())
     }
 
     /// What the method answers on items of this type, where they end so.

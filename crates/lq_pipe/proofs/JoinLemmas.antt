@@ -85,13 +85,6 @@ module _ {R : Type 0} (m : Matches R) (k : Value R) where
         subst (λ (t : Stream B). IfOk answer (λ e. (more, e) ≡ then_ending made end.Done t))
         (ap one gives ∙ alone (f (value.Seq items end.Done)) ∙ ap (λ l. select_by f (value.Seq l end.Done ∷ []) end.Done) are) h
 
-    -- and of the matches, by whether they are to be grouped
-    pub met_as : (world : World R) (grouped b : Bool) (more : List B) (E : Type 0) (answer : Result End E) → grouped ≡ b
-        → IfOk answer (λ e. (more, e) ≡ then_ending made end.Done (select_by f (matched world b k (pairs_of m)) end.Done))
-        → IfOk answer (λ e. (more, e) ≡ then_ending made end.Done (select_by f (matched world grouped k (pairs_of m)) end.Done))
-    met_as world grouped b more E answer is h =
-        subst (λ c. IfOk answer (λ e. (more, e) ≡ then_ending made end.Done (select_by f (matched world c k (pairs_of m)) end.Done))) (sym is) h
-
   items_left_at : (places : List ℕ) (i : ℕ) → i < length places
       → items_at m k (drop i places) ≡ match_at m k (get_or places i 0) ++ items_at m k (drop (suc i) places)
   items_left_at places i below = ap (items_at m k) (drop-cons places i 0 below)
@@ -187,7 +180,7 @@ module _ {R : Type 0} (world : World R) (slots : Slots R) (j : Joined Form) (qs 
   two_slots vs = λ i. select_by (λ v. form_meaning world j.result (append_assoc slots (x ∷ []) (v ∷ []) i)) vs end.Done
 
   -- what comes of an outer item whose key is met
-  pub joined_met : (deeper : Slots R) (k : Value R) (made more : List (Value R)) (E : Type 0) (answer : Result End E) → deeper ≡ slots ++ x ∷ []
+  joined_met : (deeper : Slots R) (k : Value R) (made more : List (Value R)) (E : Type 0) (answer : Result End E) → deeper ≡ slots ++ x ∷ []
       → Ok k ≡ form_meaning world j.outer_key (with_item world slots x)
       → IfOk answer (λ e. (more, e) ≡ then_ending made end.Done (select_by (λ v. form_meaning world j.result (with_item world deeper v)) (matched world j.grouped k qs) end.Done))
       → IfOk answer (λ e. (more, e) ≡ then_ending made end.Done (item_join world slots j qs x))
@@ -196,6 +189,16 @@ module _ {R : Type 0} (world : World R) (slots : Slots R) (j : Joined Form) (qs 
       (ap (λ (d : Slots R). select_by (λ v. form_meaning world j.result (with_item world d v)) (matched world j.grouped k qs) end.Done) slots_are
       ∙ two_slots (matched world j.grouped k qs)
       ∙ ap (λ (o : Result (Value R) Fault). on_value o (λ y. select_each (λ v. form_meaning world j.result (with_items world slots x v)) (matched world j.grouped y qs, end.Done))) met) h
+
+  -- the same by a lambda that is the join's, where it is known whether the matches are to be grouped
+  pub joined_by : (deeper : Slots R) (k : Value R) (body : Form) (b : Bool) (made more : List (Value R)) (E : Type 0) (answer : Result End E) → deeper ≡ slots ++ x ∷ []
+      → Ok k ≡ form_meaning world j.outer_key (with_item world slots x) → body ≡ j.result → j.grouped ≡ b
+      → IfOk answer (λ e. (more, e) ≡ then_ending made end.Done (select_by (λ v. form_meaning world body (with_item world deeper v)) (matched world b k qs) end.Done))
+      → IfOk answer (λ e. (more, e) ≡ then_ending made end.Done (item_join world slots j qs x))
+  joined_by deeper k body b made more E answer slots_are met is told h =
+      joined_met deeper k made more E answer slots_are met
+      (subst (λ (t : Stream (Value R)). IfOk answer (λ e. (more, e) ≡ then_ending made end.Done t))
+      (λ i. select_by (λ v. form_meaning world (is i) (with_item world deeper v)) (matched world (sym told i) k qs) end.Done) h)
 
   -- and of one whose key is a fault
   pub joined_unmet : (g : Fault) (made : List (Value R)) → Err g ≡ form_meaning world j.outer_key (with_item world slots x)

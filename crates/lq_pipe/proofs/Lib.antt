@@ -2,10 +2,12 @@ pub mod AnswerLemmas
 pub mod CountLaws
 pub mod DrainLemmas
 pub mod GatherLemmas
+pub mod GroupRecordLemmas
 pub mod HandingLemmas
 pub mod ItemLemmas
 pub mod JoinLemmas
 pub mod KeyLemmas
+pub mod LeadingLemmas
 pub mod LogLemmas
 pub mod PullLaws
 pub mod RowLemmas

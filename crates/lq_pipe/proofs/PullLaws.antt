@@ -85,10 +85,9 @@ module _ {A : Type 0} where
   read_none None s is = absurd (none-some None (sym is))
 
   -- the items so far, and those that are left up to a limit
-  pub begins_read : (left all : Stream A) (made : List A) (l : Option ℕ) → made ≡ [] → left ≡ all
+  pub begins_read : (left all : Stream A) (made : List A) (l : Option ℕ) → made ≡ [] → read_first l left ≡ read_first l all
       → then_ending made end.Done (read_first l left) ≡ read_first l all
-  begins_read left all made l none is =
-      ap (λ m. then_ending m end.Done (read_first l left)) none ∙ ap (λ (s : Stream A). read_first l s) is
+  begins_read left all made l none is = ap (λ m. then_ending m end.Done (read_first l left)) none ∙ is
 
   pub read_on : (old new all : Stream A) (x : A) (made more : List A) (l less : Option ℕ) → old ≡ in_front x new → more ≡ made ++ x ∷ [] → one_less l ≡ Some less
       → then_ending made end.Done (read_first l old) ≡ all → then_ending more end.Done (read_first less new) ≡ all

@@ -3,6 +3,8 @@ pub mod Gathering
 pub mod Handing
 pub mod Items
 pub mod Joins
+pub mod Leading
 pub mod Pulls
 pub mod Runs
+pub mod SelectedGroups
 pub mod Steps

@@ -32,6 +32,10 @@ module _ {R S H : Type 0} {t : Rows.Ghosts R} {r : Cells.Ghosts R} {s : Readers.
   abbrev pub GivesCell : Slots R → Lambda → Type 0
   GivesCell = plans.GivesCell run.sources
 
+  -- the same of a lambda with one slot more before the next one, whatever stands in it
+  abbrev pub GivesCellBehind : Slots R → Lambda → Type 0
+  GivesCellBehind = plans.GivesCellBehind run.sources
+
   -- what a plan says of rows in the first slot is what a condition means there
   abbrev pub PlansRows : Form → Plan → Type 0
   PlansRows = plans.PlansRows run.sources

@@ -3,13 +3,15 @@ ghost use Rattle.std.specs.Prelude.{◌≡◌, IfOk};
 ghost use Rattle.lq_value.specs.declared.value.End.TheVariants as end;
 ghost use Rattle.lq_language.specs.Stream.{one, then_ending};
 
+use crate::cells::copy_cell;
+use crate::joining::{JoinLambdas, Sought};
 use crate::running::Running;
 use lq_grammar::SortKey;
 use lq_host::{Asks, Log};
 use lq_operators::{Matches, RunError};
 use lq_plan::{Lambda, Pipe, Reads, Slots, Stage, TableRow, arrangements, sequences};
 use lq_tree::{Form, Joined};
-use lq_value::{End, Fault, List, Scalar, Value, copy_scalar};
+use lq_value::{End, Fault, List, Scalar, Value};
 use std::alloc::AllocError;
 
 impl<'a, R: TableRow, S: Reads<R>, H: Asks> Running<'a, R, S, H> {
@@ -26,11 +28,11 @@ impl<'a, R: TableRow, S: Reads<R>, H: Asks> Running<'a, R, S, H> {
     ghost use Rattle.lq_plan.specs.Pipes.{all_items};
     ghost use Rattle.lq_plan.specs.Slots.{values_in};
     ghost use Rattle.lq_pipe.specs.Items.{item_expansion, item_join, keys_and_elements, stream_expansion, stream_join};
-    ghost use Rattle.lq_pipe.specs.Joins.{match_at};
+    ghost use Rattle.lq_pipe.specs.Joins.{match_at, sought};
     ghost use Rattle.lq_host.specs.declared.call.Call.{Call};
     ghost use Rattle.lq_tree.specs.Watches.{Watch, are_covered_keys, has_watched_rows, have_watched_rows, is_covered_join};
     ghost use Rattle.lq_plan.specs.Watching.{matches_pass, watches};
-    ghost use Rattle.lq_pipe.specs.Runs.{GivesCell, IsPlanned, world, Grown, covers, covers_stage};
+    ghost use Rattle.lq_pipe.specs.Runs.{GivesCell, GivesCellBehind, IsPlanned, world, Grown, covers, covers_stage};
 
     /// What comes of each item and of each item of what it leads to.
     #[cycle(running)]
@@ -102,7 +104,7 @@ impl<'a, R: TableRow, S: Reads<R>, H: Asks> Running<'a, R, S, H> {
             → watches w slots.now ≡ true
             → Grown self.now w start log.old → Grown self.now w start log.new }
     {
-        let mut base = self.open(pipe.source, slots, log)?;
+        let mut base = self.open(None, pipe.source, slots, log)?;
         let mut values = List::new(self.sources.alloc);
         loop {
             match self.next(pipe, &mut base, slots, log)? {
@@ -172,7 +174,7 @@ impl<'a, R: TableRow, S: Reads<R>, H: Asks> Running<'a, R, S, H> {
     {
         let pipe = self.sources.pipe_of(source, slots)?;
         let lambda = self.sources.lambda(key, slots);
-        let mut base = self.open(pipe.source, slots, log)?;
+        let mut base = self.open(None, pipe.source, slots, log)?;
         let mut pairs = List::new(self.sources.alloc);
         loop {
             match self.next(&pipe, &mut base, slots, log)? {
@@ -215,20 +217,22 @@ impl<'a, R: TableRow, S: Reads<R>, H: Asks> Running<'a, R, S, H> {
     }
 
     /// What comes of an outer item and of each inner one that its key matches, or of all of them, behind
-    /// the values that are there; and how that ends.
+    /// the values that are there; and how that ends. A key that is a cell of the item stays where it stands.
     #[cycle(running)]
     fn join_item(
         &self,
         joined: &Joined<Form>,
-        outer_key: &Lambda<'_>,
+        lambdas: &JoinLambdas<'_>,
         matches: &Matches<R>,
         item: &Value<R>,
         values: &mut List<Value<R>>,
         slots: &Slots<'_, R>,
         log: &mut Log<H>,
     ) -> Result<End, AllocError>
-        requires key { GivesCell self.now slots.now outer_key.now }
-        requires outer { outer_key.now.body.now ≡ joined.now.outer_key }
+        requires key { GivesCell self.now slots.now lambdas.now.outer_key }
+        requires outer { lambdas.now.outer_key.body.now ≡ joined.now.outer_key }
+        requires cell { GivesCellBehind self.now slots.now lambdas.now.result }
+        requires body { lambdas.now.result.body.now ≡ joined.now.result }
         ensures meant { IfOk result (λ ending. (values.new, ending) ≡ then_ending values.old end.Done
             (item_join (world self.now) (values_in slots.now) joined.now (pairs_of matches.now)
             item.now)) }
@@ -238,13 +242,23 @@ impl<'a, R: TableRow, S: Reads<R>, H: Asks> Running<'a, R, S, H> {
             → has_watched_rows w item.now ≡ true
             → Grown self.now w start log.old → Grown self.now w start log.new }
     {
-        match self.value_by(outer_key, item, slots, log)? {
+        let deeper = (&*slots).with(&*item);
+        if !joined.grouped {
+            if let Some(cell) = lambdas.outer_key.cell(item) {
+                let key = Sought::Cell(cell);
+                return self.join_matches(&lambdas.result, &key, matches, values, &deeper, log);
+            }
+        }
+        match self.value_by(&lambdas.outer_key, item, slots, log)? {
             Ok(key) => {
-                let deeper = (&*slots).with(&*item);
                 if joined.grouped {
-                    return self.join_group(&joined.result, &key, matches, values, &deeper, log);
+                    let items = matches.find(self.sources.alloc, &key)?;
+                    let group = Value::Seq(items, End::Done);
+                    let met = self.value_of_item(&joined.result, &group, &deeper, log)?;
+                    return push_met(values, met);
                 }
-                self.join_matches(&joined.result, &key, matches, values, &deeper, log)
+                let key = Sought::Made(&key);
+                self.join_matches(&lambdas.result, &key, matches, values, &deeper, log)
             }
             Err(fault) => Ok(End::Fault(fault)),
         }
@@ -253,27 +267,29 @@ impl<'a, R: TableRow, S: Reads<R>, H: Asks> Running<'a, R, S, H> {
     /// What a lambda gives of each inner item that a key matches, up to the first fault. The items are
     /// read where they stand: no list is made of them.
     #[cycle(running)]
+    #[inline(always)]
     fn join_matches(
         &self,
-        body: &Form,
-        key: &Value<R>,
+        lambda: &Lambda<'_>,
+        key: &Sought<'_, R>,
         matches: &Matches<R>,
         values: &mut List<Value<R>>,
         slots: &Slots<'_, R>,
         log: &mut Log<H>,
     ) -> Result<End, AllocError>
+        requires { GivesCell self.now slots.now lambda.now }
         ensures meant { IfOk result (λ ending. (values.new, ending) ≡ then_ending values.old end.Done
-            (select_by (value_of_item (world self.now) body.now slots.now)
-            (matched (world self.now) false key.now (pairs_of matches.now)) end.Done)) }
-        ensures grows { (w : Watch R) (start : List Call) → covers self.now w body.now ≡ true
+            (select_by (value_of_item (world self.now) lambda.now.body.now slots.now)
+            (matched (world self.now) false (sought key.now) (pairs_of matches.now)) end.Done)) }
+        ensures grows { (w : Watch R) (start : List Call)
+            → covers self.now w lambda.now.body.now ≡ true
             → matches_pass w (pairs_of matches.now) ≡ true
             → watches w slots.now ≡ true
             → Grown self.now w start log.old → Grown self.now w start log.new }
     {
-        let lambda = self.sources.lambda(body, slots);
-        let places = matches.places(self.sources.alloc, key)?;
+        let places = key.places(matches, self.sources.alloc)?;
         for place in places {
-            let ending = self.join_place(&lambda, key, matches, *place, values, slots, log)?;
+            let ending = self.join_place(lambda, key, matches, *place, values, slots, log)?;
             match ending {
                 End::Done => {}
                 End::Fault(fault) => return Ok(End::Fault(fault)),
@@ -288,7 +304,7 @@ impl<'a, R: TableRow, S: Reads<R>, H: Asks> Running<'a, R, S, H> {
     fn join_place(
         &self,
         lambda: &Lambda<'_>,
-        key: &Value<R>,
+        key: &Sought<'_, R>,
         matches: &Matches<R>,
         place: usize,
         values: &mut List<Value<R>>,
@@ -298,46 +314,20 @@ impl<'a, R: TableRow, S: Reads<R>, H: Asks> Running<'a, R, S, H> {
         requires { GivesCell self.now slots.now lambda.now }
         ensures meant { IfOk result (λ ending. (values.new, ending) ≡ then_ending values.old end.Done
             (select_by (value_of_item (world self.now) lambda.now.body.now slots.now)
-            (match_at matches.now key.now place) end.Done)) }
+            (match_at matches.now (sought key.now) place) end.Done)) }
         ensures grows { (w : Watch R) (start : List Call)
             → covers self.now w lambda.now.body.now ≡ true
-            → have_watched_rows w (match_at matches.now key.now place) ≡ true
+            → have_watched_rows w (match_at matches.now (sought key.now) place) ≡ true
             → watches w slots.now ≡ true
             → Grown self.now w start log.old → Grown self.now w start log.new }
     {
-        match matches.item(key, place) {
+        match key.item(matches, place) {
             Some(inner) => {
                 let met = self.value_by(lambda, inner, slots, log)?;
                 push_met(values, met)
             }
             None => Ok(End::Done),
         }
-    }
-
-    /// What a lambda gives of all inner items that a key matches, as one sequence.
-    #[cycle(running)]
-    #[inline(never)]
-    fn join_group(
-        &self,
-        body: &Form,
-        key: &Value<R>,
-        matches: &Matches<R>,
-        values: &mut List<Value<R>>,
-        slots: &Slots<'_, R>,
-        log: &mut Log<H>,
-    ) -> Result<End, AllocError>
-        ensures meant { IfOk result (λ ending. (values.new, ending) ≡ then_ending values.old end.Done
-            (select_by (value_of_item (world self.now) body.now slots.now)
-            (matched (world self.now) true key.now (pairs_of matches.now)) end.Done)) }
-        ensures grows { (w : Watch R) (start : List Call) → covers self.now w body.now ≡ true
-            → matches_pass w (pairs_of matches.now) ≡ true
-            → watches w slots.now ≡ true
-            → Grown self.now w start log.old → Grown self.now w start log.new }
-    {
-        let items = matches.find(self.sources.alloc, key)?;
-        let group = Value::Seq(items, End::Done);
-        let met = self.value_of_item(body, &group, slots, log)?;
-        push_met(values, met)
     }
 
     /// What comes of each outer item of a pipe, up to the first fault.
@@ -363,15 +353,18 @@ impl<'a, R: TableRow, S: Reads<R>, H: Asks> Running<'a, R, S, H> {
             → watches w slots.now ≡ true
             → Grown self.now w start log.old → Grown self.now w start log.new }
     {
-        let mut base = self.open(pipe.source, slots, log)?;
-        let outer_key = self.sources.lambda(&joined.outer_key, slots);
+        let mut base = self.open(None, pipe.source, slots, log)?;
+        let lambdas = JoinLambdas {
+            outer_key: self.sources.lambda(&joined.outer_key, slots),
+            result: self.sources.lambda_behind(&joined.result, slots),
+        };
         let mut values = List::new(self.sources.alloc);
         loop {
             match self.next(pipe, &mut base, slots, log)? {
                 Ok(item) => {
                     let ending = self.join_item(
                         joined,
-                        &outer_key,
+                        &lambdas,
                         matches,
                         &item,
                         &mut values,
@@ -459,7 +452,8 @@ impl<'a, R: TableRow, S: Reads<R>, H: Asks> Running<'a, R, S, H> {
             → Grown self.now w start log.old → Grown self.now w start log.new }
     {
         let lambda = self.sources.lambda(key, slots);
-        let mut column = List::new(self.sources.alloc);
+        let places = Vec::with_capacity(self.sources.alloc, items.len())?;
+        let mut column = List::from_vec(places);
         for item in items {
             let scalar = self.key_of(&lambda, item, slots, log)?;
             column.push(scalar)?;
@@ -486,7 +480,7 @@ impl<'a, R: TableRow, S: Reads<R>, H: Asks> Running<'a, R, S, H> {
             → Grown self.now w start log.old → Grown self.now w start log.new }
     {
         match key.cell(item) {
-            Some(cell) => Ok(copy_scalar(self.sources.alloc, cell)?),
+            Some(cell) => Ok(copy_cell(self.sources.alloc, cell)?),
             None => self.scalar(key.body, &(&*slots).with(&*item), log),
         }
     }

@@ -10,7 +10,7 @@ ghost use Rattle.lq_sink.specs.Draining.{Drains};
 use crate::running::Running;
 use crate::trees::run;
 use lq_host::{Asks, Log};
-use lq_plan::{Pipe, Reads, Slots, Sources, TableRow, TableRows, stage_of};
+use lq_plan::{Base, Outcome, Pipe, Pulled, Reads, Slots, Sources, TableRow, TableRows, stage_of};
 use lq_sink::{Flow, Sink};
 use lq_tree::{Form, Tree};
 use lq_value::{End, List, RowRef, Value};
@@ -22,7 +22,11 @@ fn is_pulled(form: &Form) -> bool {
     match form {
         Form::Table(_) => true,
         Form::Where(_, _) => true,
-        Form::Select(_, _) => true,
+        // all groups are made before the first one, and what a record reads of them may be tallied meanwhile
+        Form::Select(source, body) => match (source.get(), body.get()) {
+            (Form::GroupBy(_, _, _), Form::Record(_)) => false,
+            _ => true,
+        },
         Form::Sequence(source) => is_pulled(source.get()),
         _ => false,
     }
@@ -47,11 +51,12 @@ impl<'a, R: TableRow, S: Reads<R>, H: Asks> Running<'a, R, S, H> {
     ghost use Rattle.lq_host.specs.declared.call.Call.{Call};
     ghost use Rattle.lq_tree.specs.Watches.{Watch};
     ghost use Rattle.lq_plan.specs.Meanings.{items_meant};
-    ghost use Rattle.lq_plan.specs.Pipes.{all_items};
+    ghost use Rattle.lq_plan.specs.Pipes.{all_items, items_left};
     ghost use Rattle.lq_plan.specs.Slots.{values_in};
     ghost use Rattle.lq_plan.specs.declared.slots.Slots.TheVariants as slots;
     ghost use Rattle.lq_sink.specs.Draining.{Drains};
-    ghost use Rattle.lq_pipe.specs.Runs.{IsPlanned, world, Grown, covers, covers_stage};
+    ghost use Rattle.lq_pipe.specs.Runs.{HasTaken, IsPlanned, world, Grown, covers, covers_stage};
+    ghost use Rattle.lq_pipe.specs.Steps.{Steps};
 
     /// A pipe that has the items of a form, where no slot is filled.
     fn pipe_over<'f>(&self, form: &'f Form) -> Result<Pipe<'f>, AllocError>
@@ -65,6 +70,38 @@ impl<'a, R: TableRow, S: Reads<R>, H: Asks> Running<'a, R, S, H> {
         match stage_of(form) {
             Some((stage, source)) => Ok(self.sources.pipe(stage, source, &Slots::Empty)?),
             None => Ok(self.sources.pipe_of(form, &Slots::Empty)?),
+        }
+    }
+
+    /// The next item of a pipe, or how they end, as `next` gives it; but put where it is called, since no query
+    /// stands within the loop of a drain.
+    #[inline(always)]
+    #[tactic(auto, using(crate::proofs::PullLaws::next_steps))]
+    fn next_in_place(
+        &self,
+        pipe: &Pipe<'_>,
+        base: &mut Base<R, S>,
+        slots: &Slots<'_, R>,
+        log: &mut Log<H>,
+    ) -> Result<Result<Value<R>, End>, AllocError>
+        requires { IsPlanned self.now slots.now pipe.now }
+        ensures meant { IfOk result (λ step. Steps
+            (items_left (world self.now) (values_in slots.now) pipe.now base.old) step
+            (items_left (world self.now) (values_in slots.now) pipe.now base.new)) }
+        ensures pulled { HasTaken self.now slots.now pipe.now base.old log.old base.new log.new }
+    {
+        loop {
+            match base.pull(&pipe.plan) {
+                Ok(Pulled::Row(row)) => return self.pass_row(pipe, row, slots, log),
+                Ok(Pulled::Item(item)) => {
+                    match self.pass_item(pipe, item, slots, log)? {
+                        Outcome::Item(item) => return Ok(Ok(item)),
+                        Outcome::Dropped => {}
+                        Outcome::Fault(fault) => return Ok(Err(End::Fault(fault))),
+                    }
+                }
+                Err(end) => return Ok(Err(end)),
+            }
         }
     }
 
@@ -86,9 +123,9 @@ impl<'a, R: TableRow, S: Reads<R>, H: Asks> Running<'a, R, S, H> {
             → covers_stage self.now w pipe.now.stage ≡ true
             → Grown self.now w start log.old → Grown self.now w start log.new }
     {
-        let mut base = self.open(pipe.source, &Slots::Empty, log)?;
+        let mut base = self.open(None, pipe.source, &Slots::Empty, log)?;
         loop {
-            match self.next(pipe, &mut base, &Slots::Empty, log)? {
+            match self.next_in_place(pipe, &mut base, &Slots::Empty, log)? {
                 Ok(item) => match sink.take(item) {
                     Flow::Go => {}
                     Flow::Stop => return Ok(End::Done),

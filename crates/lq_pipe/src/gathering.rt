@@ -46,7 +46,7 @@ impl<'a, R: TableRow, S: Reads<R>, H: Asks> Running<'a, R, S, H> {
             → watches w slots.now ≡ true
             → Grown self.now w start log.old → Grown self.now w start log.new }
     {
-        let mut base = self.open(pipe.source, slots, log)?;
+        let mut base = self.open(None, pipe.source, slots, log)?;
         let mut firsts = Distinct::new(self.sources.alloc, 0)?;
         loop {
             match base.pull(&pipe.plan) {
@@ -122,7 +122,7 @@ impl<'a, R: TableRow, S: Reads<R>, H: Asks> Running<'a, R, S, H> {
             → watches w slots.now ≡ true
             → Grown self.now w start log.old → Grown self.now w start log.new }
     {
-        let mut base = self.open(pipe.source, slots, log)?;
+        let mut base = self.open(None, pipe.source, slots, log)?;
         let mut grouping = Grouping::new(self.sources.alloc, 0)?;
         loop {
             match base.pull(&pipe.plan) {
@@ -207,37 +207,12 @@ impl<'a, R: TableRow, S: Reads<R>, H: Asks> Running<'a, R, S, H> {
         if group_in_place(grouping, self.sources.alloc, key, element, &item)? {
             return Ok(End::Done);
         }
-        let pair = self.key_and_element(key, element, &item, slots, log)?;
-        group_pair(grouping, self.sources.alloc, pair)
-    }
-
-    /// The key of an item, and then its element.
-    #[cycle(running)]
-    fn key_and_element(
-        &self,
-        key: &Lambda<'_>,
-        element: &Lambda<'_>,
-        item: &Value<R>,
-        slots: &Slots<'_, R>,
-        log: &mut Log<H>,
-    ) -> Result<Result<(Value<R>, Value<R>), Fault>, AllocError>
-        requires key { GivesCell self.now slots.now key.now }
-        requires element { GivesCell self.now slots.now element.now }
-        ensures meant { IfOk result (λ pair. pair ≡ key_and_element (world self.now)
-            (values_in slots.now) key.now.body.now (Some element.now.body) item.now) }
-        ensures grows { (w : Watch R) (start : List Call)
-            → covers self.now w key.now.body.now ≡ true
-            → covers self.now w element.now.body.now ≡ true
-            → watches w slots.now ≡ true
-            → has_watched_rows w item.now ≡ true
-            → Grown self.now w start log.old → Grown self.now w start log.new }
-    {
-        match self.value_by(key, item, slots, log)? {
-            Ok(key) => match self.value_by(element, item, slots, log)? {
-                Ok(element) => Ok(Ok((key, element))),
-                Err(fault) => Ok(Err(fault)),
+        match self.value_by(key, &item, slots, log)? {
+            Ok(key) => match self.value_by(element, &item, slots, log)? {
+                Ok(element) => group_pair(grouping, self.sources.alloc, Ok((key, element))),
+                Err(fault) => Ok(End::Fault(fault)),
             },
-            Err(fault) => Ok(Err(fault)),
+            Err(fault) => Ok(End::Fault(fault)),
         }
     }
 }

@@ -7,10 +7,14 @@
 #![tactic(auto)]
 
 mod adding;
+mod cells;
 mod clauses;
 mod conditions;
 mod draining;
 mod gathering;
+mod group_records;
+mod joining;
+mod leading;
 mod methods;
 mod operations;
 mod pulling;

@@ -1,12 +1,15 @@
 //! The running of methods of sequences.
+use crate::cells::copy_cell;
 use crate::running::Running;
 use lq_host::{Asks, Log};
 use lq_language::{Given, Simple};
 use lq_operators::{RunError, Tally, given, simple};
 use lq_plan::counts::{given_limit, simple_limit};
-use lq_plan::{Lambda, Pipe, Reads, Slots, Stage, TableRow, parts, scalars, sequences, stage_of};
+use lq_plan::{
+    Lambda, Pipe, Reads, Slots, Stage, TableRow, items_ref, parts, scalars, sequences, stage_of,
+};
 use lq_tree::Form;
-use lq_value::{Fault, Ty, Value, copy_scalar, same};
+use lq_value::{Fault, Ty, Value, same};
 use std::alloc::AllocError;
 
 impl<'a, R: TableRow, S: Reads<R>, H: Asks> Running<'a, R, S, H> {
@@ -47,6 +50,16 @@ impl<'a, R: TableRow, S: Reads<R>, H: Asks> Running<'a, R, S, H> {
             → watches w slots.now ≡ true
             → Grown self.now w start log.old → Grown self.now w start log.new }
     {
+        if let Stage::Select(body) = stage {
+            if let Some(selected) = self.sources.selected_groups(source, body, slots)? {
+                let grouped = self.sources.pipe_of(selected.items, slots)?;
+                if let Some((records, ending)) = self.group_items(
+                    &selected, &grouped, slots, log,
+                )? {
+                    return Ok(Value::Seq(records, ending));
+                }
+            }
+        }
         let pipe = self.sources.pipe(stage, source, slots)?;
         let (items, end) = self.read(None, &pipe, slots, log)?;
         Ok(Value::Seq(items, end))
@@ -106,7 +119,12 @@ impl<'a, R: TableRow, S: Reads<R>, H: Asks> Running<'a, R, S, H> {
             return self.distinct(pipe, slots, log);
         }
         match Tally::of(method) {
-            Some(tally) => self.tally(tally, of, pipe, slots, log),
+            Some(tally) => match items_ref(pipe.source, slots) {
+                Some((items, end)) => {
+                    self.tally_items(tally, of, &pipe.stage, items, end, slots, log)
+                }
+                None => self.tally_pulled(tally, of, pipe, slots, log),
+            },
             None => {
                 let (items, end) = self.read(simple_limit(method), pipe, slots, log)?;
                 simple(self.sources.alloc, method, of, items, end)
@@ -168,7 +186,7 @@ impl<'a, R: TableRow, S: Reads<R>, H: Asks> Running<'a, R, S, H> {
             → watches w slots.now ≡ true
             → Grown self.now w start log.old → Grown self.now w start log.new }
     {
-        let mut base = self.open(pipe.source, slots, log)?;
+        let mut base = self.open(None, pipe.source, slots, log)?;
         loop {
             match self.next(pipe, &mut base, slots, log)? {
                 Ok(item) => {
@@ -222,7 +240,7 @@ impl<'a, R: TableRow, S: Reads<R>, H: Asks> Running<'a, R, S, H> {
             → watches w slots.now ≡ true
             → Grown self.now w start log.old → Grown self.now w start log.new }
     {
-        let mut base = self.open(pipe.source, slots, log)?;
+        let mut base = self.open(None, pipe.source, slots, log)?;
         loop {
             match self.next(pipe, &mut base, slots, log)? {
                 Ok(item) => match self.holds(condition, &item, slots, log)? {
@@ -297,7 +315,7 @@ impl<'a, R: TableRow, S: Reads<R>, H: Asks> Running<'a, R, S, H> {
             → Grown self.now w start log.old → Grown self.now w start log.new }
     {
         match lambda.cell(item) {
-            Some(cell) => Ok(Ok(Value::Scalar(copy_scalar(self.sources.alloc, cell)?))),
+            Some(cell) => Ok(Ok(Value::Scalar(copy_cell(self.sources.alloc, cell)?))),
             None => self.value_of_item(lambda.body, item, slots, log),
         }
     }

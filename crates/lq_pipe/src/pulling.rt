@@ -1,4 +1,6 @@
 //! The pulling of items: one by one from a base, each through the conditions and lambdas above it.
+use crate::cells::copy_cell;
+use crate::leading::limit_below;
 use crate::running::Running;
 use crate::steps::{outcome_of, step_of};
 use lq_host::{Asks, Log};
@@ -7,7 +9,7 @@ use lq_plan::{
     stage_of,
 };
 use lq_tree::Form;
-use lq_value::{End, List, Value, copy_scalar};
+use lq_value::{End, List, Value};
 use std::alloc::AllocError;
 
 impl<'a, R: TableRow, S: Reads<R>, H: Asks> Running<'a, R, S, H> {
@@ -32,7 +34,7 @@ impl<'a, R: TableRow, S: Reads<R>, H: Asks> Running<'a, R, S, H> {
     #[cycle(running)]
     #[inline(never)]
     #[tactic(auto, using(lq_plan::proofs::PullLaws::table_opened))]
-    fn base_of(
+    pub(crate) fn base_of(
         &self,
         form: &Form,
         slots: &Slots<'_, R>,
@@ -53,31 +55,6 @@ impl<'a, R: TableRow, S: Reads<R>, H: Asks> Running<'a, R, S, H> {
                 let (items, end) = sequences::stream(self.sources.alloc, value)?;
                 Ok(Base::of_items(items, end))
             }
-        }
-    }
-
-    /// The base of a form: what stands below its conditions and lambdas.
-    #[cycle(running)]
-    #[inline(never)]
-    #[tactic(auto, using(lq_plan::proofs::PullLaws::opens))]
-    pub(crate) fn open(
-        &self,
-        form: &Form,
-        slots: &Slots<'_, R>,
-        log: &mut Log<H>,
-    ) -> Result<Base<R, S>, AllocError>
-        ensures meant { IfOk result (λ base.
-            items_at (world self.now) (values_in slots.now) form.now (base_stream base)
-            ≡ items_meant (world self.now) form.now slots.now) }
-        ensures from { IfOk result (λ base. (w : Watch R) → covers self.now w form.now ≡ true → watches w slots.now ≡ true
-            → have_watched_rows w (base_stream base).0 ≡ true) }
-        ensures grows { (w : Watch R) (start : List Call) → covers self.now w form.now ≡ true
-            → watches w slots.now ≡ true
-            → Grown self.now w start log.old → Grown self.now w start log.new }
-    {
-        match stage_of(form) {
-            Some((_, source)) => Ok(self.open(source, slots, log)?),
-            None => Ok(self.base_of(form, slots, log)?),
         }
     }
 
@@ -186,7 +163,7 @@ impl<'a, R: TableRow, S: Reads<R>, H: Asks> Running<'a, R, S, H> {
     {
         if has_no_stage(pipe.source) {
             if let Some(cell) = pipe.plan.item_cell(&item) {
-                let copy = copy_scalar(self.sources.alloc, cell)?;
+                let copy = copy_cell(self.sources.alloc, cell)?;
                 return Ok(Outcome::Item(Value::Scalar(copy)));
             }
         }
@@ -222,7 +199,7 @@ impl<'a, R: TableRow, S: Reads<R>, H: Asks> Running<'a, R, S, H> {
                     return Ok(Ok(Value::Row(row)));
                 }
                 match pipe.plan.cell(&row) {
-                    Some(cell) => Ok(Ok(Value::Scalar(copy_scalar(self.sources.alloc, cell)?))),
+                    Some(cell) => Ok(Ok(Value::Scalar(copy_cell(self.sources.alloc, cell)?))),
                     None => Ok(step_of(self.value_of_item(body, &Value::Row(row), slots, log)?)),
                 }
             }
@@ -292,7 +269,8 @@ impl<'a, R: TableRow, S: Reads<R>, H: Asks> Running<'a, R, S, H> {
         if counts::is_zero(limit) {
             return Ok((items, End::Done));
         }
-        let mut base = self.open(pipe.source, slots, log)?;
+        let below = limit_below(&pipe.stage, limit);
+        let mut base = self.open(below, pipe.source, slots, log)?;
         let mut left = limit;
         while let Some(less) = counts::one_less(left) {
             match self.next(pipe, &mut base, slots, log)? {

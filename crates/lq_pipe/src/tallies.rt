@@ -8,7 +8,7 @@ use crate::running::Running;
 use crate::steps::{with_given, with_outcome};
 use lq_host::{Asks, Log};
 use lq_operators::{RunError, Tally};
-use lq_plan::{Lambda, Pipe, Pulled, Reads, Slots, Stage, TableRow, items_ref};
+use lq_plan::{Lambda, Pipe, Pulled, Reads, Slots, Stage, TableRow};
 use lq_tree::Form;
 use lq_value::{End, Fault, Ty, Value};
 use std::alloc::AllocError;
@@ -32,37 +32,11 @@ impl<'a, R: TableRow, S: Reads<R>, H: Asks> Running<'a, R, S, H> {
     ghost use Rattle.lq_plan.specs.Watching.{is_covered_pipe, watches};
     ghost use Rattle.lq_pipe.specs.Runs.{GivesCell, IsPlanned, world, Grown, covers, covers_above, covers_stage};
 
-    /// The number that a tally comes to over the items of a pipe. Where they stand in a slot, they are read there.
-    #[cycle(running)]
-    pub(crate) fn tally(
-        &self,
-        tally: Tally,
-        of: &Ty,
-        pipe: &Pipe<'_>,
-        slots: &Slots<'_, R>,
-        log: &mut Log<H>,
-    ) -> Result<Value<R>, RunError>
-        requires { IsPlanned self.now slots.now pipe.now }
-        ensures meant { IsAnswer (as_value (tallied of.now tally
-            (all_items (world self.now) (values_in slots.now) pipe.now))) result }
-        ensures grows { (w : Watch R) (start : List Call) → covers self.now w pipe.now.source.now ≡ true
-            → covers_stage self.now w pipe.now.stage ≡ true
-            → watches w slots.now ≡ true
-            → Grown self.now w start log.old → Grown self.now w start log.new }
-    {
-        match items_ref(pipe.source, slots) {
-            Some((items, end)) => {
-                self.tally_items(tally, of, &pipe.stage, items, end, slots, log)
-            }
-            None => self.tally_pulled(tally, of, pipe, slots, log),
-        }
-    }
-
     /// The number that a tally comes to over items that stand in a slot, at the stage after them. They stay
     /// where they are.
     #[cycle(running)]
     #[inline(never)]
-    fn tally_items(
+    pub(crate) fn tally_items(
         &self,
         tally: Tally,
         of: &Ty,
@@ -261,7 +235,7 @@ impl<'a, R: TableRow, S: Reads<R>, H: Asks> Running<'a, R, S, H> {
     #[cycle(running)]
     #[inline(never)]
     #[tactic(auto, using(crate::proofs::CountLaws::tallies))]
-    fn tally_pulled(
+    pub(crate) fn tally_pulled(
         &self,
         tally: Tally,
         of: &Ty,
@@ -277,7 +251,7 @@ impl<'a, R: TableRow, S: Reads<R>, H: Asks> Running<'a, R, S, H> {
             → watches w slots.now ≡ true
             → Grown self.now w start log.old → Grown self.now w start log.new }
     {
-        let mut base = self.open(pipe.source, slots, log)?;
+        let mut base = self.open(None, pipe.source, slots, log)?;
         let mut tally = tally;
         loop {
             match base.pull(&pipe.plan) {

@@ -1,3 +1,4 @@
+pub mod AggregateLemmas
 pub mod ArrangementLaws
 pub mod ArrangementLemmas
 pub mod BaseLemmas

@@ -33,9 +33,12 @@ module _ {A : Type 0} where
   pub found_last : (xs : List A) (v : A) (n : ℕ) → n ≡ length xs + 0 → slice_get (xs ++ v ∷ []) n ≡ Some v
   found_last xs v n h = ap (slice_get (xs ++ v ∷ [])) (h ∙ (omega arith)) ∙ last_found xs v
 
-  -- the place of the next slot, and what stands there once it is filled
-  pub next_place : (xs : List A) (n : ℕ) → n ≡ length xs + 0 → n ≡ length xs
-  next_place xs n h = h ∙ (omega arith)
+  -- how many slots there are with none and with one more, and what stands in the next one once it is filled
+  pub none_more : (xs : List A) → length xs ≡ length xs + 0
+  none_more xs = omega arith
+
+  pub one_behind : (xs : List A) (v : A) → length (xs ++ v ∷ []) ≡ length xs + 1
+  one_behind xs v = grind (arith, length-append)
 
   pub found_next : (xs : List A) (v : A) (n : ℕ) → n ≡ length xs → slice_get (xs ++ v ∷ []) n ≡ Some v
   found_next xs v n h = ap (slice_get (xs ++ v ∷ [])) h ∙ last_found xs v

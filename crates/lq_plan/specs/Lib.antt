@@ -1,3 +1,4 @@
+pub mod Aggregates
 pub mod Arrangements
 pub mod Bases
 pub mod Counts

@@ -1,7 +1,8 @@
 -- The world of the tables and host predicates that forms are run over, and what is prepared of forms in this world.
-use Rattle.std.specs.Prelude.{[], ℕ}
+use Rattle.std.specs.Prelude.{◌∷◌, ◌++◌, [], ℕ}
 use Rattle.lq_value.specs.declared.scalar.Scalar.{Scalar}
 use Rattle.lq_value.specs.declared.value.RowRef as Cells
+use Rattle.lq_value.specs.declared.value.Value.{Value}
 use Rattle.lq_host.specs.declared.asks.Asks as Hosts
 use Rattle.lq_language.specs.Worlds.{World}
 use Rattle.lq_condition.specs.declared.condition.Condition.{Condition}
@@ -39,6 +40,10 @@ module _ {R S H : Type 0} {t : Rows.Ghosts R} {r : Cells.Ghosts R} {s : Readers.
     -- where a lambda is known to give a cell of rows, it gives that cell, and where it is known to give the item itself, it gives that
     abbrev pub GivesCell : Lambda → Type 0
     GivesCell = prepared.GivesCell t.table_of r.shown world (values_in slots)
+
+    -- the same where one slot more is filled before the next one, whatever stands in it
+    abbrev pub GivesCellBehind : Lambda → Type 0
+    GivesCellBehind lambda = (v : Value R) → prepared.GivesCell t.table_of r.shown world (values_in slots ++ v ∷ []) lambda
 
     -- whatever stands in the next slot, a form is this scalar
     abbrev pub IsConstant : Form → Scalar → Type 0

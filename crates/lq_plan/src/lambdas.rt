@@ -80,17 +80,39 @@ pub(crate) fn table_of_cell(body: &Form) -> TableNumber {
 }
 
 impl<'a, R: TableRow, S: Reads<R>, H: Asks> Sources<'a, R, S, H> {
-    ghost use Rattle.std.specs.Prelude.{◌≡◌};
-    ghost use Rattle.lq_plan.specs.Plans.{GivesCell};
+    ghost use Rattle.std.specs.Prelude.{◌≡◌, ◌+◌, List, length};
+    ghost use Rattle.lq_plan.specs.Plans.{GivesCell, GivesCellBehind, world};
+    ghost use Rattle.lq_plan.specs.Prepared as prepared;
+    ghost use Rattle.lq_plan.specs.Slots.{values_in};
 
     /// A lambda, whose item stands in the slot after these. Takes no memory.
     pub fn lambda<'f>(&self, body: &'f Form, slots: &Slots<'_, R>) -> Lambda<'f>
         ensures body { result.body.now ≡ body.now }
         ensures cell { GivesCell self.now slots.now result }
     {
+        self.lambda_past(body, slots, 0)
+    }
+
+    /// A lambda, whose item stands in the slot after one more item than these slots hold, whichever that
+    /// item is. Takes no memory.
+    pub fn lambda_behind<'f>(&self, body: &'f Form, slots: &Slots<'_, R>) -> Lambda<'f>
+        ensures body { result.body.now ≡ body.now }
+        ensures cell { GivesCellBehind self.now slots.now result }
+    {
+        self.lambda_past(body, slots, 1)
+    }
+
+    /// A lambda, whose item stands in the slot so many behind the next one, whatever stands in those
+    /// between.
+    fn lambda_past<'f>(&self, body: &'f Form, slots: &Slots<'_, R>, past: usize) -> Lambda<'f>
+        ensures body { result.body.now ≡ body.now }
+        ensures cell { (values : List (Value R))
+            → length values ≡ length (values_in slots.now) + past
+            → prepared.GivesCell R.table_of R.shown (world self.now) values result }
+    {
         let table = table_of_cell(body);
-        let place = self.cell_place(body, table, slots);
-        let is_item = self.is_item(body, slots);
+        let place = self.cell_place_behind(body, table, slots, past);
+        let is_item = self.is_item_behind(body, slots, past);
         Lambda {
             body,
             table,

@@ -1,8 +1,9 @@
 //! The first items of an order, by keys that are cells of rows.
-ghost use Rattle.std.specs.Prelude.{◌≡◌, ◌<◌, IfOk, List, length, true};
+ghost use Rattle.std.specs.Prelude.{◌≡◌, ◌∷◌, ◌<◌, [], IfOk, List, length, true};
 ghost use Rattle.lq_value.specs.declared.value.Value.{Value};
 ghost use Rattle.lq_language.specs.Worlds.{World};
 ghost use Rattle.lq_plan.specs.Leading.{AddsByKeys, HasKeys, LambdasGiveCells, bodies_of};
+ghost use Rattle.lq_plan.specs.Prepared.{GivesCell};
 
 use crate::lambdas::Lambda;
 use crate::rows::Reads;
@@ -13,8 +14,9 @@ use lq_grammar::SortKey;
 use lq_host::Asks;
 use lq_operators::Leading;
 use lq_tree::Form;
-use lq_value::{Scalar, Value, copy_scalar};
+use lq_value::{List, Scalar, Value, copy_scalar};
 use std::alloc::{AllocError, Global};
+use std::slice::from_ref;
 
 impl<'a, R: TableRow, S: Reads<R>, H: Asks> Sources<'a, R, S, H> {
     ghost use Rattle.std.specs.Prelude.{◌≡◌, IfOk};
@@ -81,10 +83,36 @@ fn read_keys<R: TableRow>(
     Ok(true)
 }
 
+/// Adds an item by its only key, where it stands.
+#[inline(always)]
+fn add_by_cell<R: TableRow>(
+    alloc: Global,
+    lambda: &Lambda<'_>,
+    item: Value<R>,
+    leading: &mut Leading<Value<R>>,
+) -> Result<bool, AllocError>
+    requires { length leading.old.directions ≡ 1 }
+    ensures added { IfOk result (λ given. given ≡ true → (world : World R) (slots : List (Value R))
+        → GivesCell R.table_of R.shown world slots lambda.now
+        → AddsByKeys world slots (lambda.now.body.now ∷ []) leading.old item leading.new) }
+    ensures directions { IfOk result (λ given. leading.new.directions ≡ leading.old.directions) }
+{
+    let Some(cell) = lambda.cell(&item) else {
+        return Ok(false);
+    };
+    if !leading.is_wanted(from_ref(cell)) {
+        return Ok(true);
+    }
+    let mut keys = List::new(alloc);
+    keys.push(copy_scalar(alloc, cell)?)?;
+    leading.add(keys, item)?;
+    Ok(true)
+}
+
 /// Adds an item by its keys to the first ones of an order, where it is one of them; or it is false, where a
 /// lambda isn't known to give a cell of it. The keys are read into a vector, in place of those of the item before.
 /// Refused where no memory was left.
-#[inline]
+#[inline(always)]
 pub fn add_by_cells<R: TableRow>(
     alloc: Global,
     lambdas: &[Lambda<'_>],
@@ -98,6 +126,9 @@ pub fn add_by_cells<R: TableRow>(
         → AddsByKeys world slots (bodies_of lambdas.now) leading.old item leading.new) }
     ensures directions { IfOk result (λ given. leading.new.directions ≡ leading.old.directions) }
 {
+    if let [lambda] = lambdas {
+        return add_by_cell(alloc, lambda, item, leading);
+    }
     if !read_keys(alloc, lambdas, &item, keys)? {
         return Ok(false);
     }

@@ -11,6 +11,7 @@
 //! the first ones of an order.
 #![tactic(auto)]
 
+pub mod aggregates;
 pub mod arrangements;
 mod bases;
 pub mod counts;

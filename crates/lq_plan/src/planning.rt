@@ -58,19 +58,20 @@ fn search_of(op: Op) -> Option<Op>
 }
 
 impl<'a, R: TableRow, S: Reads<R>, H: Asks> Sources<'a, R, S, H> {
-    ghost use Rattle.std.specs.Prelude.{◌≡◌, IfOk, IfSome, true};
+    ghost use Rattle.std.specs.Prelude.{◌≡◌, ◌+◌, IfOk, IfSome, List, length, true};
+    ghost use Rattle.lq_value.specs.declared.value.Value.{Value};
     ghost use Rattle.lq_language.specs.Operations.{operation_of};
     ghost use Rattle.lq_language.specs.declared.operation.Op.TheVariants as op;
     ghost use Rattle.lq_tree.specs.declared.tree.Form.TheVariants as form;
     ghost use Rattle.lq_plan.specs.Meanings.{items_meant};
     ghost use Rattle.lq_plan.specs.Pipes.{all_items};
+    ghost use Rattle.lq_plan.specs.Prepared as prepared;
     ghost use Rattle.lq_plan.specs.Pulling.{stream_behind};
     ghost use Rattle.lq_plan.specs.Slots.{values_in};
     ghost use Rattle.lq_plan.specs.declared.stages.Stage.TheVariants as of_stage;
     ghost use Rattle.lq_plan.specs.Plans.{world, Decides, DecidesPassing, DecidesStage, IsCell, IsConstant, IsItem, IsPlan, IsPlanned, PlansRows, SelectsCell, SelectsItem};
 
     /// The place of the cell that a form is of a row in the next slot, where it is one.
-    #[tactic(auto, using(crate::proofs::PreparedLemmas::own_cell_at))]
     pub(crate) fn cell_place(
         &self,
         of: &Form,
@@ -80,13 +81,29 @@ impl<'a, R: TableRow, S: Reads<R>, H: Asks> Sources<'a, R, S, H> {
         ensures { IfSome result (λ place.
             IsCell self.now slots.now table of.now place) }
     {
+        self.cell_place_behind(of, table, slots, 0)
+    }
+
+    /// The place of the cell that a form is of a row in the slot so many behind the next one, whatever
+    /// stands in those between, where it is one.
+    pub(crate) fn cell_place_behind(
+        &self,
+        of: &Form,
+        table: TableNumber,
+        slots: &Slots<'_, R>,
+        past: usize,
+    ) -> Option<usize>
+        ensures { (values : List (Value R)) → length values ≡ length (values_in slots.now) + past
+            → IfSome result (λ place. prepared.IsCell R.table_of R.shown (world self.now) values
+            table of.now place) }
+    {
         let Form::Column(row, number, column) = of else {
             return None;
         };
         let Form::Slot(slot) = row.get() else {
             return None;
         };
-        if !slots.is_next(*slot) {
+        if !slots.is_behind(*slot, past) {
             return None;
         }
         if *number != table {
@@ -97,12 +114,19 @@ impl<'a, R: TableRow, S: Reads<R>, H: Asks> Sources<'a, R, S, H> {
     }
 
     /// Whether a form is known to be what stands in the next slot, whatever that is.
-    #[tactic(auto, using(crate::proofs::PreparedLemmas::next_item))]
     pub(crate) fn is_item(&self, of: &Form, slots: &Slots<'_, R>) -> bool
         ensures { result ≡ true → IsItem self.now slots.now of.now }
     {
+        self.is_item_behind(of, slots, 0)
+    }
+
+    /// The same of the slot so many behind the next one, whatever stands in those between.
+    pub(crate) fn is_item_behind(&self, of: &Form, slots: &Slots<'_, R>, past: usize) -> bool
+        ensures { (values : List (Value R)) → length values ≡ length (values_in slots.now) + past
+            → result ≡ true → prepared.IsItem (world self.now) values of.now }
+    {
         match of {
-            Form::Slot(slot) => slots.is_next(*slot),
+            Form::Slot(slot) => slots.is_behind(*slot, past),
             _ => false,
         }
     }

@@ -43,12 +43,14 @@ impl<'a, R: RowRef> Slots<'a, R> {
         }
     }
 
-    /// Whether the slot of this number would be the next one.
-    #[tactic(auto, using(crate::proofs::SlotLaws::next_place))]
-    pub(crate) fn is_next(&self, number: usize) -> bool
-        ensures { result ≡ true → number ≡ length (values_in self.now) }
+    /// Whether the slot of this number would be the one so many behind the next one.
+    pub(crate) fn is_behind(&self, number: usize, past: usize) -> bool
+        ensures { result ≡ true → number ≡ length (values_in self.now) + past }
     {
-        matches!(self.find(number), Err(0))
+        match self.find(number) {
+            Ok(_) => false,
+            Err(behind) => behind == past,
+        }
     }
 
     /// What the slot of this number holds, counted from 0 at the outermost; none exactly where there are

@@ -1,16 +1,14 @@
-use Rattle.std.proofs.Common.{false, ◌≡◌, [], None, Some, IfErr, IfOk, Ok, Err, ap, refl, rules, subst, sym, true, ◌∙◌}
+use Rattle.std.proofs.Common.{false, ◌≡◌, [], None, Some, IfErr, IfOk, Ok, Err, ap, refl, rules, subst, sym, true, ◌∙◌, ◌∷◌, length, IfSome, map}
 use Rattle.lq_value.specs.SameAndOrder.{same_values}
 use Rattle.lq_grammar.specs.declared.syntax.Field.{Field}
 use Rattle.lq_grammar.specs.declared.syntax.SortKey.{SortKey}
 use Rattle.lq_operators.specs.Answers.{IsAnswer}
-use Rattle.lq_operators.specs.declared.error.RunError.TheVariants as error
 use Rattle.lq_operators.specs.Matching.{pairs_of}
 use Rattle.lq_operators.specs.Tallies.{tallied}
 use Rattle.lq_language.specs.Arrangement.{all_of}
 use Rattle.lq_language.specs.Enumerable.{in_front}
 use Rattle.lq_language.specs.Stream.{Stream, both, one, then_stream, select_by, then_ending, first_keys, groups_of}
 use Rattle.lq_language.specs.Meaning.{given_meaning, simple_meaning}
-use Rattle.lq_language.specs.declared.methods.Given.TheVariants as of_given
 use Rattle.lq_language.specs.OperandMeaning.{as_value, sequence}
 use Rattle.lq_tree.specs.FormMeaning.{form_meaning, with_item}
 use Rattle.lq_tree.specs.Watches.{are_covered_fields, are_covered_keys, has_watched_rows, have_watched_rows, is_covered, is_covered_join}
@@ -26,7 +24,7 @@ use Rattle.lq_plan.specs.Pulling.{base_stream, item_at, outcome_stream, through_
 use Rattle.lq_plan.specs.Slots.{values_in}
 use Rattle.lq_plan.specs.Watching.{facts, is_covered_pipe, is_covered_stage, matches_pass}
 use Rattle.lq_plan.proofs.PlanLaws.{row_says}
-use Rattle.lq_plan.proofs.PullLaws.{left_opened, stage_items, passes_stage, table_opened, bare_item}
+use Rattle.lq_plan.proofs.PullLaws.{left_opened, passes_stage, table_opened, bare_item, stage_items}
 use Rattle.lq_plan.proofs.WatchLaws.{slots_pass, source_covered, stage_covered}
 use Rattle.lq_tree.proofs.CoveredLaws.{covered_all_body, covered_all_source, covered_and_left, covered_and_right, covered_binary_left, covered_binary_right, covered_coalesce_left, covered_coalesce_right, covered_column, covered_conditional_condition, covered_conditional_first, covered_conditional_second, covered_first, covered_given_argument, covered_given_source, covered_group_by_element, covered_group_by_key, covered_group_by_source, covered_host, covered_is_null, covered_join_parts, covered_join_source, covered_key, covered_member, covered_or_left, covered_or_right, covered_order_keys, covered_order_source, covered_pair_first, covered_pair_second, covered_record, covered_second, covered_select_body, covered_select_many_inner, covered_select_many_result, covered_select_many_source, covered_select_source, covered_sequence, covered_simple, covered_unary, covered_where_body, covered_where_source, host_passes, join_inner, join_inner_key, join_outer_key, join_result}
 use Rattle.lq_plan.specs.Handing.{HandsOut, handed_out, rows_to_come}
@@ -34,26 +32,36 @@ use Rattle.lq_pipe.proofs.HandingLemmas.{at_most, at_most_end, hands_end, hands_
 use Rattle.lq_operators.specs.Firsts.{firsts_in}
 use Rattle.lq_operators.specs.Groups.{groups_in}
 use Rattle.lq_operators.proofs.NumberLaws.{scalar_on}
-use Rattle.lq_plan.specs.declared.stages.Stage.TheVariants as of_stage
 use Rattle.lq_pipe.specs.Items.{AreGrouped, item_expansion, item_join, key_and_element, keys_and_elements}
-use Rattle.lq_pipe.specs.Runs.{world}
+use Rattle.lq_pipe.specs.Joins.{sought}
+use Rattle.lq_pipe.specs.Runs.{Grown, world}
 use Rattle.lq_pipe.specs.Steps.{GivesStep, Steps}
 use Rattle.lq_pipe.proofs.AnswerLemmas.{all_answer, given_answer, members_goes, record_ended, record_stopped, select_answer, where_answer}
-use Rattle.lq_pipe.proofs.CountLaws.{Tallies, all_begins, cell_of_row, contains_begins, contains_on, given_read, simple_read, staged_ends, staged_goes, tally_begins, tally_on, tally_over}
+use Rattle.lq_pipe.proofs.CountLaws.{Tallies, tally_answers, all_begins, cell_of_row, contains_begins, contains_on, given_read, simple_read, staged_ends, staged_goes, tally_begins, tally_on, tally_over}
 use Rattle.lq_pipe.proofs.ItemLemmas.{expansion_is, group_by_done, group_by_stops, join_answer, join_stops, select_many_answer}
 use Rattle.lq_pipe.proofs.KeyLemmas.{all_goes, all_stops, counted_answer, key_answer, key_by, key_cell, order_by_done, order_by_stops}
-use Rattle.lq_pipe.proofs.LogLemmas.{Covers, above_source, above_stage, all_on, all_there, asked, covered_as, covers_pipe, items_read, next_passes, opened, pairs_match, passed_item, source_of, stage_as, stage_over, took, went_on, pipe_covered}
+use Rattle.lq_pipe.proofs.LogLemmas.{Covers, above_source, above_stage, all_on, all_there, asked, covered_as, covers_pipe, items_read, next_passes, opened, pairs_match, passed_item, source_of, stage_as, took, went_on, pipe_covered, stage_over}
 use Rattle.lq_pipe.proofs.PullLaws.{begins_read, comes, comes_begins, comes_on, fewer, next_dropped, next_ended, next_fault, next_given, next_item, pulled, read_ended, read_on, selects_begin, selects_on, selects_stopped}
-use Rattle.lq_value.specs.declared.value.End.TheVariants as end
 use Rattle.lq_value.specs.declared.value.Value.{Value}
-use Rattle.lq_value.specs.declared.value.Value.TheVariants as value
-use Rattle.lq_plan.specs.declared.bases.Pulled.TheVariants as of_pulled
-use Rattle.lq_tree.specs.declared.tree.Form.TheVariants as form
-use Rattle.lq_pipe.proofs.JoinLemmas.{behind_on, behind_stopped, given_ended, given_on, given_stopped, group_passes, joined_met, joined_unmet, met_as, met_group, met_there, none_there, watched_at, watched_there}
+use Rattle.lq_pipe.proofs.JoinLemmas.{behind_on, behind_stopped, given_ended, given_on, given_stopped, group_passes, joined_by, joined_unmet, met_group, met_there, none_there, watched_at, watched_there}
 use Rattle.lq_pipe.proofs.GatherLemmas.{came_watched, cell_comes, firsts_answered, gathered_begins, gathered_ended, gathered_on, gathered_stopped, gathers_as, pairs_end, pairs_none, pairs_as, pairs_then, scalar_comes, took_asked}
 use Rattle.lq_pipe.specs.Gathering.{AddsFirsts, AddsPairs}
 use Rattle.lq_pipe.proofs.StepLemmas.{alone, given_last, given_select, given_stage}
+use Rattle.lq_plan.specs.Counts.{read_first}
+use Rattle.lq_plan.specs.Leading.{bodies_of, forms_of}
+use Rattle.lq_pipe.specs.Leading.{Leads, LeadsOn}
+use Rattle.lq_pipe.proofs.GroupRecordLemmas.{groups_stopped, groups_until, selects_covered, tallies_begin, tallies_ended, tallies_pulled, tallies_stopped, tallies_with}
+use Rattle.lq_pipe.specs.SelectedGroups.{TalliesOn}
+use Rattle.lq_pipe.proofs.LeadingLemmas.{so_if_ok, first_pass, leads_begin, leads_ended, leads_pulled, leads_stopped, leads_with, left_first, row_comes, sorted_first, sorted_stops}
+use Rattle.lq_operators.specs.declared.error.RunError.TheVariants as error
+use Rattle.lq_language.specs.declared.methods.Given.TheVariants as of_given
+use Rattle.lq_plan.specs.declared.stages.Stage.TheVariants as of_stage
+use Rattle.lq_value.specs.declared.value.End.TheVariants as end
+use Rattle.lq_value.specs.declared.value.Value.TheVariants as value
+use Rattle.lq_plan.specs.declared.bases.Pulled.TheVariants as of_pulled
+use Rattle.lq_tree.specs.declared.tree.Form.TheVariants as form
 use Rattle.lq_pipe.proofs.running.Running.+running.Goals as goal
+use Rattle.lq_pipe.proofs.running.Running.+running.Goals.{sequence-in-Select+in_ok-selected+in-Some+in_ok-grouped+in_ok-records+in_default-3, sequence-in-Select+in_ok-selected+in_default-2, sequence-in_default}
 
 pub scalar-returns-in_ok-evaluate-in-None-clause-meant : goal.scalar-returns-in_ok-evaluate-in-None-clause-meant
 scalar-returns-in_ok-evaluate-in-None-clause-meant g t c =
@@ -84,9 +92,9 @@ record-returns-in_err-value-clause-meant g t c =
     let same : c.from_residual.result ≡ Err c.in_err-value.field-0.0 = search rules in
     subst (λ r. IsAnswer (form_meaning (world c.args.self.now) (form.Record c.args.fields.now) (values_in c.args.slots.now)) r) (sym same) stops
 
-pub value_by-returns-in_ok-copy_scalar-in-Some-clause-meant : goal.value_by-returns-in_ok-copy_scalar-in-Some-clause-meant
-value_by-returns-in_ok-copy_scalar-in-Some-clause-meant g t c =
-    sym (c.in-Some.ensures (world c.args.self.now) (values_in c.args.slots.now) c.requires ∙ ap (λ s. Ok (value.Scalar s)) (sym c.in_ok-copy_scalar-in-Some.ensures))
+pub value_by-returns-in_ok-copy_cell-in-Some-clause-meant : goal.value_by-returns-in_ok-copy_cell-in-Some-clause-meant
+value_by-returns-in_ok-copy_cell-in-Some-clause-meant g t c =
+    sym (c.in-Some.ensures (world c.args.self.now) (values_in c.args.slots.now) c.requires ∙ ap (λ s. Ok (value.Scalar s)) (sym c.in_ok-copy_cell-in-Some.ensures))
 
 pub tally_by-returns-in-Some-clause-meant : goal.tally_by-returns-in-Some-clause-meant
 tally_by-returns-in-Some-clause-meant g t c =
@@ -135,9 +143,9 @@ tally_items-returns-in-Select-clause-grows g t c =
     λ w start h s a gr.
     c.tally_lambda.ensures.grows w start (covered_as (world c.args.self.now) w _ _ c.lambda-lambda.ensures.body (subst (λ st. is_covered_stage (world c.args.self.now) w st ≡ true) c.in-Select.is h)) s a gr
 
-pub key_of-returns-in_ok-copy_scalar-in-Some-clause-meant : goal.key_of-returns-in_ok-copy_scalar-in-Some-clause-meant
-key_of-returns-in_ok-copy_scalar-in-Some-clause-meant g t c =
-    key_cell (world c.args.self.now) (values_in c.args.slots.now) c.args.item.now c.args.key.now.body.now _ _ (c.in-Some.ensures (world c.args.self.now) (values_in c.args.slots.now) c.requires) c.in_ok-copy_scalar-in-Some.ensures
+pub key_of-returns-in_ok-copy_cell-in-Some-clause-meant : goal.key_of-returns-in_ok-copy_cell-in-Some-clause-meant
+key_of-returns-in_ok-copy_cell-in-Some-clause-meant g t c =
+    key_cell (world c.args.self.now) (values_in c.args.slots.now) c.args.item.now c.args.key.now.body.now _ _ (c.in-Some.ensures (world c.args.self.now) (values_in c.args.slots.now) c.requires) c.in_ok-copy_cell-in-Some.ensures
 
 pub key_of-returns-in-None-clause-meant : goal.key_of-returns-in-None-clause-meant
 key_of-returns-in-None-clause-meant g t c =
@@ -153,7 +161,7 @@ key_column-returns-in_err-scalar-clause-meant g t c =
     let stops = all_stops (key_at (world c.args.self.now) (values_in c.args.slots.now) c.args.key.now) c.args.items.now _ c.loop-item.column _ _
     c.item-item.is c.loop-item-test.true c.loop-item.invariant.meant c.in_err-scalar.field-0.0
     (key_by (world c.args.self.now) (values_in c.args.slots.now) _ _ c.args.key.now (Err c.in_err-scalar.field-0.0) c.lambda-lambda.ensures.body c.in_err-scalar.ensures.meant) in
-    let same : c.from_residual.result ≡ Err c.in_err-scalar.field-0.0 = search rules in
+    let same : c.from_residual-in_err-scalar.result ≡ Err c.in_err-scalar.field-0.0 = search rules in
     subst (λ r. Answers (all_of (key_at (world c.args.self.now) (values_in c.args.slots.now) c.args.key.now) c.args.items.now) r) (sym same) stops
 
 pub key_column-returns-in_err-scalar-clause-grows : goal.key_column-returns-in_err-scalar-clause-grows
@@ -281,6 +289,43 @@ key_pairs-returns-in-Err-2-clause-meant g t c =
     selects_stopped (key_and_element (world c.args.self.now) (values_in c.args.slots.now) c.args.key.now None) (items_left (world c.args.self.now) (values_in c.args.slots.now) c.in_ok-pipe.pipe c.loop-pairs.base) (items_left (world c.args.self.now) (values_in c.args.slots.now) c.in_ok-pipe.pipe c.next.new.base) c.in-Ok.item _ _ c.loop-pairs.pairs (subst (λ s. Steps (items_left (world c.args.self.now) (values_in c.args.slots.now) c.in_ok-pipe.pipe c.loop-pairs.base) s (items_left (world c.args.self.now) (values_in c.args.slots.now) c.in_ok-pipe.pipe c.next.new.base)) c.in-Ok.is c.in_ok-item.ensures.meant)
     (ap (λ m. both m (Ok c.in-Ok.item)) (sym c.in-Err-2.is ∙ c.in_ok-key-in-Ok.ensures.meant ∙ ap (λ f. value_of_item (world c.args.self.now) f c.args.slots.now c.in-Ok.item) c.lambda-lambda.ensures.body)) c.loop-pairs.invariant.meant
 
+pub join_item-returns-in-Some-clause-meant : goal.join_item-returns-in-Some-clause-meant
+join_item-returns-in-Some-clause-meant g t c =
+    joined_by (world c.args.self.now) (values_in c.args.slots.now) c.args.joined.now (pairs_of c.args.matches.now) c.args.item.now _ (value.Scalar c.in-Some.cell.now) c.args.lambdas.now.result.body.now false c.args.values.now c.join_matches.new.values _ c.join_matches.result c.with-deeper.ensures
+    (sym (c.in-Some.ensures (world c.args.self.now) (values_in c.args.slots.now) c.requires.key) ∙ ap (λ f. value_of_item (world c.args.self.now) f c.args.slots.now c.args.item.now) c.requires.outer) c.requires.body c.if-not-joined.true c.join_matches.ensures.meant
+
+pub join_item-returns-then-joined-clause-meant : goal.join_item-returns-then-joined-clause-meant
+join_item-returns-then-joined-clause-meant g t c =
+    joined_by (world c.args.self.now) (values_in c.args.slots.now) c.args.joined.now (pairs_of c.args.matches.now) c.args.item.now _ c.in-Ok.key c.args.joined.now.result true c.args.values.now c.push_met.new.values _ c.push_met.result c.with-deeper.ensures
+    (sym c.in-Ok.is ∙ c.in_ok-key.ensures.meant ∙ ap (λ f. value_of_item (world c.args.self.now) f c.args.slots.now c.args.item.now) c.requires.outer) refl c.if-joined.true
+    (met_group c.args.matches.now c.in-Ok.key (value_of_item (world c.args.self.now) c.args.joined.now.result _) c.args.values.now (world c.args.self.now) c.in_ok-items-in-Ok.items _ c.push_met.new.values _ c.push_met.result
+    c.in_ok-items-in-Ok.ensures c.in_ok-met-in-Ok.ensures.meant c.push_met.ensures)
+
+pub join_item-returns-else-joined-clause-meant : goal.join_item-returns-else-joined-clause-meant
+join_item-returns-else-joined-clause-meant g t c =
+    joined_by (world c.args.self.now) (values_in c.args.slots.now) c.args.joined.now (pairs_of c.args.matches.now) c.args.item.now _ c.in-Ok.key c.args.lambdas.now.result.body.now false c.args.values.now c.join_matches-in-Ok.new.values _ c.join_matches-in-Ok.result c.with-deeper.ensures
+    (sym c.in-Ok.is ∙ c.in_ok-key.ensures.meant ∙ ap (λ f. value_of_item (world c.args.self.now) f c.args.slots.now c.args.item.now) c.requires.outer) c.requires.body c.if-joined.false c.join_matches-in-Ok.ensures.meant
+
+pub join_item-returns-then-joined-clause-grows : goal.join_item-returns-then-joined-clause-grows
+join_item-returns-then-joined-clause-grows g t c =
+    λ w start h m s i gr.
+    c.value_of_item.ensures.grows w start (join_result (world c.args.self.now) w c.args.joined.now h) (slot_more w (values_in c.args.slots.now) _ _ c.with-deeper.ensures s i)
+    (group_passes w (world c.args.self.now) c.in-Ok.key (pairs_of c.args.matches.now) c.in_ok-items-in-Ok.items c.in_ok-items-in-Ok.ensures m)
+    (c.value_by.ensures.grows w start (covered_as (world c.args.self.now) w _ _ c.requires.outer (join_outer_key (world c.args.self.now) w c.args.joined.now h)) s i gr)
+
+pub join_item-returns-in_err-met-in-Ok-clause-grows : goal.join_item-returns-in_err-met-in-Ok-clause-grows
+join_item-returns-in_err-met-in-Ok-clause-grows g t c =
+    λ w start h m s i gr.
+    c.value_of_item.ensures.grows w start (join_result (world c.args.self.now) w c.args.joined.now h) (slot_more w (values_in c.args.slots.now) _ _ c.with-deeper.ensures s i)
+    (group_passes w (world c.args.self.now) c.in-Ok.key (pairs_of c.args.matches.now) c.in_ok-items-in-Ok.items c.in_ok-items-in-Ok.ensures m)
+    (c.value_by.ensures.grows w start (covered_as (world c.args.self.now) w _ _ c.requires.outer (join_outer_key (world c.args.self.now) w c.args.joined.now h)) s i gr)
+
+pub join_item-returns-else-joined-clause-grows : goal.join_item-returns-else-joined-clause-grows
+join_item-returns-else-joined-clause-grows g t c =
+    λ w start h m s i gr.
+    c.join_matches-in-Ok.ensures.grows w start (covered_as (world c.args.self.now) w _ _ c.requires.body (join_result (world c.args.self.now) w c.args.joined.now h)) m (slot_more w (values_in c.args.slots.now) _ _ c.with-deeper.ensures s i)
+    (c.value_by.ensures.grows w start (covered_as (world c.args.self.now) w _ _ c.requires.outer (join_outer_key (world c.args.self.now) w c.args.joined.now h)) s i gr)
+
 pub join_item-returns-in_err-key-clause-grows : goal.join_item-returns-in_err-key-clause-grows
 join_item-returns-in_err-key-clause-grows g t c =
     λ w start h m s i gr.
@@ -299,33 +344,18 @@ join_item-returns-in-Err-clause-meant g t c =
 pub join_matches-loop-place-init : goal.join_matches-loop-place-init
 join_matches-loop-place-init g t c =
     record {
-      meant = ap (λ l. then_ending c.args.values.now end.Done (select_by (value_of_item (world c.args.self.now) c.args.body.now c.args.slots.now) l end.Done)) c.in_ok-places.ensures;
+      meant = ap (λ l. then_ending c.args.values.now end.Done (select_by (value_of_item (world c.args.self.now) c.args.lambda.now.body.now c.args.slots.now) l end.Done)) c.in_ok-places.ensures;
       grows = λ w start h m s gr. gr;
     }
 
 pub join_matches-returns-clause-meant : goal.join_matches-returns-clause-meant
 join_matches-returns-clause-meant g t c =
-    given_ended c.args.matches.now c.args.key.now (value_of_item (world c.args.self.now) c.args.body.now c.args.slots.now) _ _ c.loop-place.values _ c.loop-place-test.false c.loop-place.invariant.meant
+    given_ended c.args.matches.now (sought c.args.key.now) (value_of_item (world c.args.self.now) c.args.lambda.now.body.now c.args.slots.now) _ _ c.loop-place.values _ c.loop-place-test.false c.loop-place.invariant.meant
 
 pub join_matches-returns-clause-grows : goal.join_matches-returns-clause-grows
 join_matches-returns-clause-grows g t c =
     λ w start h m s gr.
     c.loop-place.invariant.grows w start h m s gr
-
-pub join_group-returns-clause-meant : goal.join_group-returns-clause-meant
-join_group-returns-clause-meant g t c =
-    met_group c.args.matches.now c.args.key.now (value_of_item (world c.args.self.now) c.args.body.now c.args.slots.now) c.args.values.now (world c.args.self.now) c.in_ok-items.items _ c.push_met.new.values _ c.push_met.result
-    c.in_ok-items.ensures c.in_ok-met.ensures.meant c.push_met.ensures
-
-pub join_group-returns-clause-grows : goal.join_group-returns-clause-grows
-join_group-returns-clause-grows g t c =
-    λ w start h m s gr.
-    c.value_of_item.ensures.grows w start h s (group_passes w (world c.args.self.now) c.args.key.now (pairs_of c.args.matches.now) c.in_ok-items.items c.in_ok-items.ensures m) gr
-
-pub join_group-returns-in_err-met-clause-grows : goal.join_group-returns-in_err-met-clause-grows
-join_group-returns-in_err-met-clause-grows g t c =
-    λ w start h m s gr.
-    c.value_of_item.ensures.grows w start h s (group_passes w (world c.args.self.now) c.args.key.now (pairs_of c.args.matches.now) c.in_ok-items.items c.in_ok-items.ensures m) gr
 
 pub join_items-returns-in-Fault-clause-meant : goal.join_items-returns-in-Fault-clause-meant
 join_items-returns-in-Fault-clause-meant g t c =
@@ -403,6 +433,54 @@ expand_item-returns-clause-meant g t c =
 
 pub sequence-returns-clause-meant : goal.sequence-returns-clause-meant
 sequence-returns-clause-meant g t c = ap (λ s. Ok (sequence s)) (sym (c.in_ok-items.ensures.meant ∙ c.in_ok-pipe.ensures.items))
+
+pub sequence-returns-in-Some-2-clause-grows : goal.sequence-returns-in-Some-2-clause-grows
+sequence-returns-in-Some-2-clause-grows g t c =
+    λ w start st h s gr.
+    c.group_items.ensures.grows w start (selects_covered c.args.self.now.sources w c.args.slots.now c.args.source.now c.in-Select.body.now _ c.in-Some.selected c.in_ok-grouped.grouped.source.now c.in-Some.is c.in_ok-selected.ensures c.in_ok-grouped.ensures.source h)
+    (stage_as (world c.args.self.now) w _ _ c.in_ok-grouped.ensures.stage refl) s gr
+
+pub sequence-returns-in_err-records-clause-grows : goal.sequence-returns-in_err-records-clause-grows
+sequence-returns-in_err-records-clause-grows g t c =
+    λ w start st h s gr.
+    c.group_items.ensures.grows w start (selects_covered c.args.self.now.sources w c.args.slots.now c.args.source.now c.in-Select.body.now _ c.in-Some.selected c.in_ok-grouped.grouped.source.now c.in-Some.is c.in_ok-selected.ensures c.in_ok-grouped.ensures.source h)
+    (stage_as (world c.args.self.now) w _ _ c.in_ok-grouped.ensures.stage refl) s gr
+
+pub sequence-returns-in_err-pipe-clause-grows : goal.sequence-returns-in_err-pipe-clause-grows
+sequence-returns-in_err-pipe-clause-grows g t c =
+    λ w start st h s gr.
+    let before : Grown c.args.self.now w start c.match-stage.log = elim c.match-stage.branch [
+      | sequence-in-Select+in_ok-selected+in-Some+in_ok-grouped+in_ok-records+in_default-3 b ↦ subst (Grown c.args.self.now w start) (sym b.log-is)
+          (b.group_items.ensures.grows w start (selects_covered c.args.self.now.sources w c.args.slots.now c.args.source.now b.in-Select.body.now _ b.in-Some.selected b.in_ok-grouped.grouped.source.now b.in-Some.is b.in_ok-selected.ensures b.in_ok-grouped.ensures.source h)
+          (stage_as (world c.args.self.now) w _ _ b.in_ok-grouped.ensures.stage refl) s gr)
+      | sequence-in-Select+in_ok-selected+in_default-2 b ↦ subst (Grown c.args.self.now w start) (sym b.log-is) gr
+      | sequence-in_default b ↦ subst (Grown c.args.self.now w start) (sym b.log-is) gr
+    ] in
+    before
+
+pub sequence-returns-in_err-items-clause-grows : goal.sequence-returns-in_err-items-clause-grows
+sequence-returns-in_err-items-clause-grows g t c =
+    λ w start st h s gr.
+    let before : Grown c.args.self.now w start c.match-stage.log = elim c.match-stage.branch [
+      | sequence-in-Select+in_ok-selected+in-Some+in_ok-grouped+in_ok-records+in_default-3 b ↦ subst (Grown c.args.self.now w start) (sym b.log-is)
+          (b.group_items.ensures.grows w start (selects_covered c.args.self.now.sources w c.args.slots.now c.args.source.now b.in-Select.body.now _ b.in-Some.selected b.in_ok-grouped.grouped.source.now b.in-Some.is b.in_ok-selected.ensures b.in_ok-grouped.ensures.source h)
+          (stage_as (world c.args.self.now) w _ _ b.in_ok-grouped.ensures.stage refl) s gr)
+      | sequence-in-Select+in_ok-selected+in_default-2 b ↦ subst (Grown c.args.self.now w start) (sym b.log-is) gr
+      | sequence-in_default b ↦ subst (Grown c.args.self.now w start) (sym b.log-is) gr
+    ] in
+    c.read.ensures.grows w start (covered_as (world c.args.self.now) w _ _ c.in_ok-pipe.ensures.source h) (stage_as (world c.args.self.now) w _ _ c.in_ok-pipe.ensures.stage st) s before
+
+pub sequence-returns-clause-grows : goal.sequence-returns-clause-grows
+sequence-returns-clause-grows g t c =
+    λ w start st h s gr.
+    let before : Grown c.args.self.now w start c.match-stage.log = elim c.match-stage.branch [
+      | sequence-in-Select+in_ok-selected+in-Some+in_ok-grouped+in_ok-records+in_default-3 b ↦ subst (Grown c.args.self.now w start) (sym b.log-is)
+          (b.group_items.ensures.grows w start (selects_covered c.args.self.now.sources w c.args.slots.now c.args.source.now b.in-Select.body.now _ b.in-Some.selected b.in_ok-grouped.grouped.source.now b.in-Some.is b.in_ok-selected.ensures b.in_ok-grouped.ensures.source h)
+          (stage_as (world c.args.self.now) w _ _ b.in_ok-grouped.ensures.stage refl) s gr)
+      | sequence-in-Select+in_ok-selected+in_default-2 b ↦ subst (Grown c.args.self.now w start) (sym b.log-is) gr
+      | sequence-in_default b ↦ subst (Grown c.args.self.now w start) (sym b.log-is) gr
+    ] in
+    c.read.ensures.grows w start (covered_as (world c.args.self.now) w _ _ c.in_ok-pipe.ensures.source h) (stage_as (world c.args.self.now) w _ _ c.in_ok-pipe.ensures.stage st) s before
 
 pub all-returns-clause-meant : goal.all-returns-clause-meant
 all-returns-clause-meant g t c =
@@ -910,20 +988,6 @@ base_of-returns-in_ok-items-in_default-clause-from g t c =
     stream_passes (world c.args.self.now) w c.args.form.now (values_in c.args.slots.now) _
     (c.of_items.ensures.items ∙ c.in_ok-items-in_default.ensures (world c.args.self.now) _ refl c.evaluate-value.ensures.meant) h s
 
-pub open-returns-in_ok-open-in-Some-clause-grows : goal.open-returns-in_ok-open-in-Some-clause-grows
-open-returns-in_ok-open-in-Some-clause-grows g t c =
-    λ w start h s gr.
-    c.open.ensures.grows w start (source_of (world c.args.self.now) w c.in-Some.field-0-0 c.args.form.now c.in-Some.source.now c.in-Some.ensures.stage h) s gr
-
-pub open-returns-in_err-open-in-Some-clause-grows : goal.open-returns-in_err-open-in-Some-clause-grows
-open-returns-in_err-open-in-Some-clause-grows g t c =
-    λ w start h s gr.
-    c.open.ensures.grows w start (source_of (world c.args.self.now) w c.in-Some.field-0-0 c.args.form.now c.in-Some.source.now c.in-Some.ensures.stage h) s gr
-
-pub open-returns-in_ok-open-in-Some-clause-from : goal.open-returns-in_ok-open-in-Some-clause-from
-open-returns-in_ok-open-in-Some-clause-from g t c =
-    λ w h s. c.in_ok-open-in-Some.ensures.from w (source_of (world c.args.self.now) w c.in-Some.field-0-0 c.args.form.now c.in-Some.source.now c.in-Some.ensures.stage h) s
-
 pub pass-returns-in_ok-pass-in-Some-Plain-default-clause-grows : goal.pass-returns-in_ok-pass-in-Some-Plain-default-clause-grows
 pass-returns-in_ok-pass-in-Some-Plain-default-clause-grows g t c =
     λ w start h s i gr.
@@ -980,7 +1044,7 @@ pass_stage-returns-in_err-holds-in-Where-clause-grows g t c =
 pub read-loop-less-init : goal.read-loop-less-init
 read-loop-less-init g t c =
     record {
-      meant = begins_read _ _ _ c.args.limit c.new-items.ensures (left_opened (world c.args.self.now) (values_in c.args.slots.now) _ _ c.in_ok-base.base c.in_ok-base.ensures.meant);
+      meant = begins_read _ _ _ c.args.limit c.new-items.ensures (left_first (world c.args.self.now) (values_in c.args.slots.now) c.args.pipe.now.stage c.args.limit _ c.args.pipe.now.source.now c.in_ok-base.base c.limit_below-below.ensures c.in_ok-base.ensures.meant);
       log = opened (world c.args.self.now) (facts c.args.self.now.sources) g.R.TableRow.table_of g.R.RowRef.shown (values_in c.args.slots.now) c.args.pipe.now (Covers (world c.args.self.now) (values_in c.args.slots.now) c.args.pipe.now) _ _ c.in_ok-base.base (λ w start p gr. c.open.ensures.grows w start p.source_in p.slots_in gr) (λ w p. c.in_ok-base.ensures.from w p.source_in p.slots_in);
     }
 
@@ -1060,16 +1124,6 @@ pub tally_items-returns-clause-grows : goal.tally_items-returns-clause-grows
 tally_items-returns-clause-grows g t c =
     λ w start h s a gr.
     c.loop-item.invariant.grows w start h s a gr
-
-pub tally-returns-in-Some-clause-meant : goal.tally-returns-in-Some-clause-meant
-tally-returns-in-Some-clause-meant g t c =
-    subst (λ s. IsAnswer (as_value (tallied c.args.of.now c.args.tally (through_stage (world c.args.self.now) (values_in c.args.slots.now) c.args.pipe.now.stage s))) c.tally_items.result)
-    (sym (c.in-Some.ensures (world c.args.self.now))) c.tally_items.ensures.meant
-
-pub tally-returns-in-Some-clause-grows : goal.tally-returns-in-Some-clause-grows
-tally-returns-in-Some-clause-grows g t c =
-    λ w start a b s gr.
-    c.tally_items.ensures.grows w start b s (stream_passes (world c.args.self.now) w c.args.pipe.now.source.now (values_in c.args.slots.now) _ (sym (c.in-Some.ensures (world c.args.self.now))) a s) gr
 
 pub has_item-loop-base-init : goal.has_item-loop-base-init
 has_item-loop-base-init g t c =
@@ -1444,16 +1498,6 @@ key_columns-loop-key-preserved g t c =
           (c.loop-key.invariant.grows w start h s a gr);
     }
 
-pub sequence-returns-clause-grows : goal.sequence-returns-clause-grows
-sequence-returns-clause-grows g t c =
-    λ w start st h s gr.
-    c.read.ensures.grows w start (covered_as (world c.args.self.now) w _ _ c.in_ok-pipe.ensures.source h) (stage_as (world c.args.self.now) w _ _ c.in_ok-pipe.ensures.stage st) s gr
-
-pub sequence-returns-in_err-items-clause-grows : goal.sequence-returns-in_err-items-clause-grows
-sequence-returns-in_err-items-clause-grows g t c =
-    λ w start st h s gr.
-    c.read.ensures.grows w start (covered_as (world c.args.self.now) w _ _ c.in_ok-pipe.ensures.source h) (stage_as (world c.args.self.now) w _ _ c.in_ok-pipe.ensures.stage st) s gr
-
 pub all-returns-clause-grows : goal.all-returns-clause-grows
 all-returns-clause-grows g t c =
     λ w start h k s gr.
@@ -1774,87 +1818,178 @@ given-returns-in_err-items-in_default-clause-grows g t c =
     λ w start h k s gr.
     c.read.ensures.grows w start (covered_as (world c.args.self.now) w _ _ c.in_ok-pipe.ensures.source h) (stage_as (world c.args.self.now) w _ _ c.in_ok-pipe.ensures.stage refl) s (c.evaluate.ensures.grows w start k s gr)
 
+-- ---- the first items of an order
+
 pub given-returns-in-Contains-clause-meant : goal.given-returns-in-Contains-clause-meant
 given-returns-in-Contains-clause-meant g t c =
     given_answer (world c.args.self.now) c.args.method c.args.source.now c.args.argument.now (values_in c.args.slots.now) _ _ (Err (error.Fault c.in-Err.fault)) (c.in_ok-argument.ensures _ c.evaluate.ensures.meant) c.in_ok-pipe.ensures.items
     (subst (λ m. IsAnswer (given_meaning (world c.args.self.now) m c.in_ok-argument.argument (all_items (world c.args.self.now) (values_in c.args.slots.now) c.in_ok-pipe.pipe)) (Err (error.Fault c.in-Err.fault))) (sym c.in-Contains.is)
     (subst (λ a. IsAnswer (given_meaning (world c.args.self.now) of_given.Contains a (all_items (world c.args.self.now) (values_in c.args.slots.now) c.in_ok-pipe.pipe)) (Err (error.Fault c.in-Err.fault))) (sym c.in-Err.is) refl))
 
-pub join_item-returns-else-joined-clause-meant : goal.join_item-returns-else-joined-clause-meant
-join_item-returns-else-joined-clause-meant g t c =
-    joined_met (world c.args.self.now) (values_in c.args.slots.now) c.args.joined.now (pairs_of c.args.matches.now) c.args.item.now _ c.in-Ok.key c.args.values.now c.join_matches.new.values _ c.join_matches.result c.with-deeper.ensures
-    (sym c.in-Ok.is ∙ c.in_ok-key.ensures.meant ∙ ap (λ f. value_of_item (world c.args.self.now) f c.args.slots.now c.args.item.now) c.requires.outer)
-    (met_as c.args.matches.now c.in-Ok.key (value_of_item (world c.args.self.now) c.args.joined.now.result c.with-deeper.result) c.args.values.now (world c.args.self.now) c.args.joined.now.grouped false _ _ c.join_matches.result c.if-joined.false c.join_matches.ensures.meant)
-
-pub join_item-returns-else-joined-clause-grows : goal.join_item-returns-else-joined-clause-grows
-join_item-returns-else-joined-clause-grows g t c =
-    λ w start h m s i gr.
-    c.join_matches.ensures.grows w start (join_result (world c.args.self.now) w c.args.joined.now h) m (slot_more w (values_in c.args.slots.now) _ _ c.with-deeper.ensures s i)
-    (c.value_by.ensures.grows w start (covered_as (world c.args.self.now) w _ _ c.requires.outer (join_outer_key (world c.args.self.now) w c.args.joined.now h)) s i gr)
-
-pub join_item-returns-then-joined-clause-meant : goal.join_item-returns-then-joined-clause-meant
-join_item-returns-then-joined-clause-meant g t c =
-    joined_met (world c.args.self.now) (values_in c.args.slots.now) c.args.joined.now (pairs_of c.args.matches.now) c.args.item.now _ c.in-Ok.key c.args.values.now c.join_group.new.values _ c.join_group.result c.with-deeper.ensures
-    (sym c.in-Ok.is ∙ c.in_ok-key.ensures.meant ∙ ap (λ f. value_of_item (world c.args.self.now) f c.args.slots.now c.args.item.now) c.requires.outer)
-    (met_as c.args.matches.now c.in-Ok.key (value_of_item (world c.args.self.now) c.args.joined.now.result c.with-deeper.result) c.args.values.now (world c.args.self.now) c.args.joined.now.grouped true _ _ c.join_group.result c.if-joined.true c.join_group.ensures.meant)
-
-pub join_item-returns-then-joined-clause-grows : goal.join_item-returns-then-joined-clause-grows
-join_item-returns-then-joined-clause-grows g t c =
-    λ w start h m s i gr.
-    c.join_group.ensures.grows w start (join_result (world c.args.self.now) w c.args.joined.now h) m (slot_more w (values_in c.args.slots.now) _ _ c.with-deeper.ensures s i)
-    (c.value_by.ensures.grows w start (covered_as (world c.args.self.now) w _ _ c.requires.outer (join_outer_key (world c.args.self.now) w c.args.joined.now h)) s i gr)
-
 pub join_matches-loop-place-preserved : goal.join_matches-loop-place-preserved
 join_matches-loop-place-preserved g t c =
     record {
-      meant = given_on c.args.matches.now c.args.key.now (value_of_item (world c.args.self.now) c.args.body.now c.args.slots.now) _ _ _ c.loop-place.values _ _ _ c.loop-place-test.true
-          (ap (λ b. value_of_item (world c.args.self.now) b c.args.slots.now) c.lambda-lambda.ensures.body) c.in_ok-ending.ensures.meant
+      meant = given_on c.args.matches.now (sought c.args.key.now) (value_of_item (world c.args.self.now) c.args.lambda.now.body.now c.args.slots.now) _ _ _ c.loop-place.values _ _ _ c.loop-place-test.true
+          refl c.in_ok-ending.ensures.meant
           c.in-Done.is c.loop-place.invariant.meant;
       grows = λ w start h m s gr.
-          c.join_place.ensures.grows w start (covered_as (world c.args.self.now) w _ _ c.lambda-lambda.ensures.body h)
-          (watched_at c.args.matches.now c.args.key.now (world c.args.self.now) w _ _ c.in_ok-places.ensures m c.loop-place-test.true) s
+          c.join_place.ensures.grows w start h
+          (watched_at c.args.matches.now (sought c.args.key.now) (world c.args.self.now) w _ _ c.in_ok-places.ensures m c.loop-place-test.true) s
           (c.loop-place.invariant.grows w start h m s gr);
     }
 
 pub join_matches-returns-in-Fault-clause-meant : goal.join_matches-returns-in-Fault-clause-meant
 join_matches-returns-in-Fault-clause-meant g t c =
-    given_stopped c.args.matches.now c.args.key.now (value_of_item (world c.args.self.now) c.args.body.now c.args.slots.now) _ _ _ c.loop-place.values _ _ _ _ c.loop-place-test.true
-    (ap (λ b. value_of_item (world c.args.self.now) b c.args.slots.now) c.lambda-lambda.ensures.body) c.in_ok-ending.ensures.meant
+    given_stopped c.args.matches.now (sought c.args.key.now) (value_of_item (world c.args.self.now) c.args.lambda.now.body.now c.args.slots.now) _ _ _ c.loop-place.values _ _ _ _ c.loop-place-test.true
+    refl c.in_ok-ending.ensures.meant
     c.in-Fault.is c.loop-place.invariant.meant
 
 pub join_matches-returns-in-Fault-clause-grows : goal.join_matches-returns-in-Fault-clause-grows
 join_matches-returns-in-Fault-clause-grows g t c =
     λ w start h m s gr.
-    c.join_place.ensures.grows w start (covered_as (world c.args.self.now) w _ _ c.lambda-lambda.ensures.body h)
-    (watched_at c.args.matches.now c.args.key.now (world c.args.self.now) w _ _ c.in_ok-places.ensures m c.loop-place-test.true) s
+    c.join_place.ensures.grows w start h
+    (watched_at c.args.matches.now (sought c.args.key.now) (world c.args.self.now) w _ _ c.in_ok-places.ensures m c.loop-place-test.true) s
     (c.loop-place.invariant.grows w start h m s gr)
 
 pub join_matches-returns-in_err-ending-clause-grows : goal.join_matches-returns-in_err-ending-clause-grows
 join_matches-returns-in_err-ending-clause-grows g t c =
     λ w start h m s gr.
-    c.join_place.ensures.grows w start (covered_as (world c.args.self.now) w _ _ c.lambda-lambda.ensures.body h)
-    (watched_at c.args.matches.now c.args.key.now (world c.args.self.now) w _ _ c.in_ok-places.ensures m c.loop-place-test.true) s
+    c.join_place.ensures.grows w start h
+    (watched_at c.args.matches.now (sought c.args.key.now) (world c.args.self.now) w _ _ c.in_ok-places.ensures m c.loop-place-test.true) s
     (c.loop-place.invariant.grows w start h m s gr)
 
 pub join_place-returns-in_ok-met-in-Some-clause-meant : goal.join_place-returns-in_ok-met-in-Some-clause-meant
 join_place-returns-in_ok-met-in-Some-clause-meant g t c =
-    met_there c.args.matches.now c.args.key.now (value_of_item (world c.args.self.now) c.args.lambda.now.body.now c.args.slots.now) c.args.values.now c.args.place _ c.in-Some.inner _ c.push_met.new.values _ c.push_met.result
+    met_there c.args.matches.now (sought c.args.key.now) (value_of_item (world c.args.self.now) c.args.lambda.now.body.now c.args.slots.now) c.args.values.now c.args.place _ c.in-Some.inner _ c.push_met.new.values _ c.push_met.result
     c.item.ensures c.in-Some.is c.in_ok-met-in-Some.ensures.meant c.push_met.ensures
 
 pub join_place-returns-in-None-clause-meant : goal.join_place-returns-in-None-clause-meant
 join_place-returns-in-None-clause-meant g t c =
-    none_there c.args.matches.now c.args.key.now (value_of_item (world c.args.self.now) c.args.lambda.now.body.now c.args.slots.now) c.args.values.now c.args.place _
+    none_there c.args.matches.now (sought c.args.key.now) (value_of_item (world c.args.self.now) c.args.lambda.now.body.now c.args.slots.now) c.args.values.now c.args.place _
     c.item.ensures c.in-None.is
 
 pub join_place-returns-in_ok-met-in-Some-clause-grows : goal.join_place-returns-in_ok-met-in-Some-clause-grows
 join_place-returns-in_ok-met-in-Some-clause-grows g t c =
     λ w start h i s gr.
-    c.value_by.ensures.grows w start h s (watched_there c.args.matches.now c.args.key.now w c.args.place _ c.in-Some.inner c.item.ensures c.in-Some.is i) gr
+    c.value_by.ensures.grows w start h s (watched_there c.args.matches.now (sought c.args.key.now) w c.args.place _ c.in-Some.inner c.item.ensures c.in-Some.is i) gr
 
 pub join_place-returns-in_err-met-in-Some-clause-grows : goal.join_place-returns-in_err-met-in-Some-clause-grows
 join_place-returns-in_err-met-in-Some-clause-grows g t c =
     λ w start h i s gr.
-    c.value_by.ensures.grows w start h s (watched_there c.args.matches.now c.args.key.now w c.args.place _ c.in-Some.inner c.item.ensures c.in-Some.is i) gr
+    c.value_by.ensures.grows w start h s (watched_there c.args.matches.now (sought c.args.key.now) w c.args.place _ c.in-Some.inner c.item.ensures c.in-Some.is i) gr
+
+pub leading_items-loop-row-init : goal.leading_items-loop-row-init
+leading_items-loop-row-init g t c =
+    record {
+      meant = leads_begin (world c.args.self.now) (values_in c.args.slots.now) (bodies_of c.args.lambdas.now) c.args.directions c.args.wanted _ _ _ c.new-leading.ensures (left_opened (world c.args.self.now) (values_in c.args.slots.now) _ _ c.in_ok-base.base c.in_ok-base.ensures.meant);
+      counted = c.requires.counted ∙ ap length (sym c.new-leading.ensures.1);
+      log = opened (world c.args.self.now) (facts c.args.self.now.sources) g.R.TableRow.table_of g.R.RowRef.shown (values_in c.args.slots.now) c.args.pipe.now (Covers (world c.args.self.now) (values_in c.args.slots.now) c.args.pipe.now) _ _ c.in_ok-base.base (λ w start p gr. c.open.ensures.grows w start p.source_in p.slots_in gr) (λ w p. c.in_ok-base.ensures.from w p.source_in p.slots_in);
+    }
+
+pub open-returns-in-Some-clause-grows : goal.open-returns-in-Some-clause-grows
+open-returns-in-Some-clause-grows g t c =
+    λ w start h s gr.
+    c.open.ensures.grows w start (source_of (world c.args.self.now) w c.in-Some.stage c.args.form.now c.in-Some.source.now c.in-Some.ensures.stage h) s gr
+
+pub open-returns-in-Some-clause-from : goal.open-returns-in-Some-clause-from
+open-returns-in-Some-clause-from g t c =
+    so_if_ok c.open.result _ _
+    (λ base from w h s. from w (source_of (world c.args.self.now) w c.in-Some.stage c.args.form.now c.in-Some.source.now c.in-Some.ensures.stage h) s)
+    c.open.ensures.from
+
+pub open-returns-in-Some-2-clause-from : goal.open-returns-in-Some-2-clause-from
+open-returns-in-Some-2-clause-from g t c =
+    λ w h s.
+    first_pass (world c.args.self.now) (values_in c.args.slots.now) w c.args.form.now c.args.limit c.base_of_items.result c.in-Some-2.found c.base_of_items.ensures
+    (subst (λ o. IfSome o (λ items. items ≡ read_first c.args.limit (items_meant (world c.args.self.now) c.args.form.now c.args.slots.now))) c.in-Some-2.is c.in_ok-found-in-None.ensures.meant) h s
+
+pub first_sorted-returns-in_err-leading-clause-grows : goal.first_sorted-returns-in_err-leading-clause-grows
+first_sorted-returns-in_err-leading-clause-grows g t c =
+    λ w start h s gr.
+    c.leading_items.ensures.grows w start (covered_order_source (world c.args.self.now) w c.args.form.now c.in-Some.source.now c.in-Some.keys.now c.in_ok-pipe.pipe.source.now c.in-Some.ensures.form c.in_ok-pipe.ensures.source h)
+    (stage_as (world c.args.self.now) w _ _ c.in_ok-pipe.ensures.stage refl) s gr
+
+pub first_sorted-returns-in-Done-clause-grows : goal.first_sorted-returns-in-Done-clause-grows
+first_sorted-returns-in-Done-clause-grows g t c =
+    λ w start h s gr.
+    c.leading_items.ensures.grows w start (covered_order_source (world c.args.self.now) w c.args.form.now c.in-Some.source.now c.in-Some.keys.now c.in_ok-pipe.pipe.source.now c.in-Some.ensures.form c.in_ok-pipe.ensures.source h)
+    (stage_as (world c.args.self.now) w _ _ c.in_ok-pipe.ensures.stage refl) s gr
+
+pub first_sorted-returns-in-Some-2-clause-grows : goal.first_sorted-returns-in-Some-2-clause-grows
+first_sorted-returns-in-Some-2-clause-grows g t c =
+    λ w start h s gr.
+    c.leading_items.ensures.grows w start (covered_order_source (world c.args.self.now) w c.args.form.now c.in-Some.source.now c.in-Some.keys.now c.in_ok-pipe.pipe.source.now c.in-Some.ensures.form c.in_ok-pipe.ensures.source h)
+    (stage_as (world c.args.self.now) w _ _ c.in_ok-pipe.ensures.stage refl) s gr
+
+pub first_sorted-returns-clause-grows : goal.first_sorted-returns-clause-grows
+first_sorted-returns-clause-grows g t c =
+    λ w start h s gr.
+    c.leading_items.ensures.grows w start (covered_order_source (world c.args.self.now) w c.args.form.now c.in-Some.source.now c.in-Some.keys.now c.in_ok-pipe.pipe.source.now c.in-Some.ensures.form c.in_ok-pipe.ensures.source h)
+    (stage_as (world c.args.self.now) w _ _ c.in_ok-pipe.ensures.stage refl) s gr
+
+pub first_sorted-returns-in-Done-clause-meant : goal.first_sorted-returns-in-Done-clause-meant
+first_sorted-returns-in-Done-clause-meant g t c =
+    sorted_first (world c.args.self.now) (values_in c.args.slots.now) c.args.form.now c.in-Some.source.now c.in-Some.keys.now c.args.limit c.in-Some.wanted c.in-Some.ensures.form c.in-Some.ensures.limit
+    (bodies_of c.as_slice-4.result.now) c.in_ok-directions.directions c.in-Some-2.leading c.in-Some-2.end (all_items (world c.args.self.now) (values_in c.args.slots.now) c.in_ok-pipe.pipe) c.into_items.result
+    (ap bodies_of c.as_slice-4.ensures.value ∙ c.in_ok-lambdas.ensures.bodies ∙ ap forms_of c.as_slice.ensures)
+    (c.in_ok-directions.ensures ∙ ap (map (λ k. k.descending)) c.as_slice-3.ensures) c.in_ok-pipe.ensures.items c.in-Done.is
+    (subst (λ o. IfSome o (λ first. Leads (world c.args.self.now) (values_in c.args.slots.now) (bodies_of c.as_slice-4.result.now) c.in_ok-directions.directions c.in-Some.wanted first.0 ([], first.1) (all_items (world c.args.self.now) (values_in c.args.slots.now) c.in_ok-pipe.pipe))) c.in-Some-2.is c.in_ok-leading.ensures.meant) (λ d m rows has. c.into_items.ensures d m rows has)
+
+pub first_sorted-returns-in-Some-2-clause-meant : goal.first_sorted-returns-in-Some-2-clause-meant
+first_sorted-returns-in-Some-2-clause-meant g t c =
+    sorted_stops (world c.args.self.now) (values_in c.args.slots.now) c.args.form.now c.in-Some.source.now c.in-Some.keys.now c.args.limit c.in-Some.wanted c.in-Some.ensures.form c.in-Some.ensures.limit c.in-Some.ensures.some
+    (bodies_of c.as_slice-4.result.now) c.in_ok-directions.directions c.in-Some-2.leading c.in-Some-2.end c.in-Fault.fault (all_items (world c.args.self.now) (values_in c.args.slots.now) c.in_ok-pipe.pipe) c.new.result c.in_ok-pipe.ensures.items c.in-Fault.is c.new.ensures
+    (subst (λ o. IfSome o (λ first. Leads (world c.args.self.now) (values_in c.args.slots.now) (bodies_of c.as_slice-4.result.now) c.in_ok-directions.directions c.in-Some.wanted first.0 ([], first.1) (all_items (world c.args.self.now) (values_in c.args.slots.now) c.in_ok-pipe.pipe))) c.in-Some-2.is c.in_ok-leading.ensures.meant)
+
+pub leading_items-loop-row-preserved-else-not-branch : goal.leading_items-loop-row-preserved-else-not-branch
+leading_items-loop-row-preserved-else-not-branch g t c =
+    record {
+      meant =
+          leads_pulled (world c.args.self.now) (values_in c.args.slots.now) (bodies_of c.args.lambdas.now) c.args.directions c.args.wanted c.loop-row.leading _ (value.Row c.in-Ok-Row.row ∷ [], end.Done) (items_left (world c.args.self.now) (values_in c.args.slots.now) c.args.pipe.now c.loop-row.base) (items_left (world c.args.self.now) (values_in c.args.slots.now) c.args.pipe.now c.pull.new.self) _ (Some end.Done)
+          ((pulled g.R.TableRow.table_of g.R.RowRef.shown (world c.args.self.now) (values_in c.args.slots.now) c.args.pipe.now c.loop-row.base c.pull.new.self (value.Row c.in-Ok-Row.row) c.requires.planned (subst (λ r. IfOk r (λ p. (kept_stream g.R.TableRow.table_of g.R.RowRef.shown c.args.pipe.now.plan c.loop-row.base) ≡ in_front (pulled_value p) (kept_stream g.R.TableRow.table_of g.R.RowRef.shown c.args.pipe.now.plan c.pull.new.self))) (c.in-Ok-Row.is ∙ ap (λ p. Ok p) c.in-Ok-Row.field-0-is) c.pull.ensures.item)) ∙ ap (λ (s : Stream (Value _)). then_stream s (items_left (world c.args.self.now) (values_in c.args.slots.now) c.args.pipe.now c.pull.new.self)) (row_comes g.R.TableRow.table_of g.R.RowRef.shown (world c.args.self.now) (values_in c.args.slots.now) c.args.pipe.now c.in-Ok-Row.row c.requires.planned c.requires.plain (subst (λ r. IfOk r (IsPulled g.R.TableRow.table_of g.R.RowRef.shown c.args.pipe.now.plan)) (c.in-Ok-Row.is ∙ ap (λ p. Ok p) c.in-Ok-Row.field-0-is) c.pull.ensures.planned)))
+          (leads_with (world c.args.self.now) (values_in c.args.slots.now) (bodies_of c.args.lambdas.now) c.loop-row.leading _ (value.Row c.in-Ok-Row.row) (c.in_ok-add_by_cells-in-Ok-Row.ensures.added c.if-not-branch.false (world c.args.self.now) (values_in c.args.slots.now) c.requires.cells)) refl c.loop-row.invariant.meant;
+      counted = c.loop-row.invariant.counted ∙ ap length (sym c.in_ok-add_by_cells-in-Ok-Row.ensures.directions);
+      log = took (world c.args.self.now) (facts c.args.self.now.sources) g.R.TableRow.table_of g.R.RowRef.shown (values_in c.args.slots.now) c.args.pipe.now (Covers (world c.args.self.now) (values_in c.args.slots.now) c.args.pipe.now) (λ w p. p) _ _ _ c.loop-row.base c.pull.new.self (value.Row c.in-Ok-Row.row) c.loop-row.invariant.log (subst (λ r. IfOk r (λ p. (kept_stream g.R.TableRow.table_of g.R.RowRef.shown c.args.pipe.now.plan c.loop-row.base) ≡ in_front (pulled_value p) (kept_stream g.R.TableRow.table_of g.R.RowRef.shown c.args.pipe.now.plan c.pull.new.self))) (c.in-Ok-Row.is ∙ ap (λ p. Ok p) c.in-Ok-Row.field-0-is) c.pull.ensures.item) (λ w start h i gr. gr);
+    }
+
+pub leading_items-loop-row-preserved : goal.leading_items-loop-row-preserved
+leading_items-loop-row-preserved g t c =
+    record {
+      meant =
+          leads_pulled (world c.args.self.now) (values_in c.args.slots.now) (bodies_of c.args.lambdas.now) c.args.directions c.args.wanted c.loop-row.leading _ (comes g.R.TableRow.table_of g.R.RowRef.shown (world c.args.self.now) (values_in c.args.slots.now) c.args.pipe.now c.in-Ok-Item.item) (items_left (world c.args.self.now) (values_in c.args.slots.now) c.args.pipe.now c.loop-row.base) (items_left (world c.args.self.now) (values_in c.args.slots.now) c.args.pipe.now c.pull.new.self) _ c.in_ok-add_leading-in-Ok-Item.field-0
+          (pulled g.R.TableRow.table_of g.R.RowRef.shown (world c.args.self.now) (values_in c.args.slots.now) c.args.pipe.now c.loop-row.base c.pull.new.self c.in-Ok-Item.item c.requires.planned (subst (λ r. IfOk r (λ p. (kept_stream g.R.TableRow.table_of g.R.RowRef.shown c.args.pipe.now.plan c.loop-row.base) ≡ in_front (pulled_value p) (kept_stream g.R.TableRow.table_of g.R.RowRef.shown c.args.pipe.now.plan c.pull.new.self))) (c.in-Ok-Item.is ∙ ap (λ p. Ok p) c.in-Ok-Item.field-0-is) c.pull.ensures.item))
+          (subst (λ (s : Stream (Value _)). LeadsOn (world c.args.self.now) (values_in c.args.slots.now) (bodies_of c.args.lambdas.now) c.loop-row.leading s c.in_ok-add_leading-in-Ok-Item.field-0 c.add_leading.new.leading) c.in_ok-outcome-in-Ok-Item.ensures.meant (c.in_ok-add_leading-in-Ok-Item.ensures.leads (world c.args.self.now) (values_in c.args.slots.now) c.requires.cells)) (c.in-Some-Done.is ∙ ap (λ e. Some e) c.in-Some-Done.field-0-is) c.loop-row.invariant.meant;
+      counted = c.loop-row.invariant.counted ∙ ap length (sym c.in_ok-add_leading-in-Ok-Item.ensures.directions);
+      log = took (world c.args.self.now) (facts c.args.self.now.sources) g.R.TableRow.table_of g.R.RowRef.shown (values_in c.args.slots.now) c.args.pipe.now (Covers (world c.args.self.now) (values_in c.args.slots.now) c.args.pipe.now) (λ w p. p) _ _ _ c.loop-row.base c.pull.new.self c.in-Ok-Item.item c.loop-row.invariant.log (subst (λ r. IfOk r (λ p. (kept_stream g.R.TableRow.table_of g.R.RowRef.shown c.args.pipe.now.plan c.loop-row.base) ≡ in_front (pulled_value p) (kept_stream g.R.TableRow.table_of g.R.RowRef.shown c.args.pipe.now.plan c.pull.new.self))) (c.in-Ok-Item.is ∙ ap (λ p. Ok p) c.in-Ok-Item.field-0-is) c.pull.ensures.item) (λ w start h i gr. c.pass_item.ensures.grows w start (stage_covered g.R.TableRow.table_of g.R.RowRef.shown (world c.args.self.now) w (values_in c.args.slots.now) c.args.pipe.now h) (source_covered g.R.TableRow.table_of g.R.RowRef.shown (world c.args.self.now) w (values_in c.args.slots.now) c.args.pipe.now h) (slots_pass g.R.TableRow.table_of g.R.RowRef.shown (world c.args.self.now) w (values_in c.args.slots.now) c.args.pipe.now h) i gr);
+    }
+
+pub leading_items-returns-in-Some-Fault-clause-meant : goal.leading_items-returns-in-Some-Fault-clause-meant
+leading_items-returns-in-Some-Fault-clause-meant g t c =
+    leads_stopped (world c.args.self.now) (values_in c.args.slots.now) (bodies_of c.args.lambdas.now) c.args.directions c.args.wanted c.loop-row.leading _ (comes g.R.TableRow.table_of g.R.RowRef.shown (world c.args.self.now) (values_in c.args.slots.now) c.args.pipe.now c.in-Ok-Item.item) (items_left (world c.args.self.now) (values_in c.args.slots.now) c.args.pipe.now c.loop-row.base) (items_left (world c.args.self.now) (values_in c.args.slots.now) c.args.pipe.now c.pull.new.self) _ c.in_ok-add_leading-in-Ok-Item.field-0 c.in-Some-Fault.fault
+    (pulled g.R.TableRow.table_of g.R.RowRef.shown (world c.args.self.now) (values_in c.args.slots.now) c.args.pipe.now c.loop-row.base c.pull.new.self c.in-Ok-Item.item c.requires.planned (subst (λ r. IfOk r (λ p. (kept_stream g.R.TableRow.table_of g.R.RowRef.shown c.args.pipe.now.plan c.loop-row.base) ≡ in_front (pulled_value p) (kept_stream g.R.TableRow.table_of g.R.RowRef.shown c.args.pipe.now.plan c.pull.new.self))) (c.in-Ok-Item.is ∙ ap (λ p. Ok p) c.in-Ok-Item.field-0-is) c.pull.ensures.item))
+    (subst (λ (s : Stream (Value _)). LeadsOn (world c.args.self.now) (values_in c.args.slots.now) (bodies_of c.args.lambdas.now) c.loop-row.leading s c.in_ok-add_leading-in-Ok-Item.field-0 c.add_leading.new.leading) c.in_ok-outcome-in-Ok-Item.ensures.meant (c.in_ok-add_leading-in-Ok-Item.ensures.leads (world c.args.self.now) (values_in c.args.slots.now) c.requires.cells)) (c.in-Some-Fault.is ∙ ap (λ e. Some e) c.in-Some-Fault.field-0-is) c.loop-row.invariant.meant
+
+pub leading_items-returns-in-Err-clause-meant : goal.leading_items-returns-in-Err-clause-meant
+leading_items-returns-in-Err-clause-meant g t c =
+    leads_ended (world c.args.self.now) (values_in c.args.slots.now) (bodies_of c.args.lambdas.now) c.args.directions c.args.wanted c.loop-row.leading (items_left (world c.args.self.now) (values_in c.args.slots.now) c.args.pipe.now c.loop-row.base) _ c.in-Err.end
+    (next_ended g.R.TableRow.table_of g.R.RowRef.shown (world c.args.self.now) (values_in c.args.slots.now) c.args.pipe.now c.loop-row.base c.loop-row.base c.in-Err.end c.requires.planned refl (subst (λ r. IfErr r (λ e. (kept_stream g.R.TableRow.table_of g.R.RowRef.shown c.args.pipe.now.plan c.loop-row.base) ≡ ([], e))) c.in-Err.is c.pull.ensures.end))
+    c.loop-row.invariant.meant
+
+pub leading_items-returns-in_err-outcome-in-Ok-Item-clause-grows : goal.leading_items-returns-in_err-outcome-in-Ok-Item-clause-grows
+leading_items-returns-in_err-outcome-in-Ok-Item-clause-grows g t c =
+    λ w start a b s gr. (took (world c.args.self.now) (facts c.args.self.now.sources) g.R.TableRow.table_of g.R.RowRef.shown (values_in c.args.slots.now) c.args.pipe.now (Covers (world c.args.self.now) (values_in c.args.slots.now) c.args.pipe.now) (λ w p. p) _ _ _ c.loop-row.base c.pull.new.self c.in-Ok-Item.item c.loop-row.invariant.log (subst (λ r. IfOk r (λ p. (kept_stream g.R.TableRow.table_of g.R.RowRef.shown c.args.pipe.now.plan c.loop-row.base) ≡ in_front (pulled_value p) (kept_stream g.R.TableRow.table_of g.R.RowRef.shown c.args.pipe.now.plan c.pull.new.self))) (c.in-Ok-Item.is ∙ ap (λ p. Ok p) c.in-Ok-Item.field-0-is) c.pull.ensures.item) (λ w start h i gr. c.pass_item.ensures.grows w start (stage_covered g.R.TableRow.table_of g.R.RowRef.shown (world c.args.self.now) w (values_in c.args.slots.now) c.args.pipe.now h) (source_covered g.R.TableRow.table_of g.R.RowRef.shown (world c.args.self.now) w (values_in c.args.slots.now) c.args.pipe.now h) (slots_pass g.R.TableRow.table_of g.R.RowRef.shown (world c.args.self.now) w (values_in c.args.slots.now) c.args.pipe.now h) i gr)).grows w start (covers_pipe (world c.args.self.now) (values_in c.args.slots.now) c.args.pipe.now w a b s) gr
+
+pub leading_items-returns-in_err-add_leading-in-Ok-Item-clause-grows : goal.leading_items-returns-in_err-add_leading-in-Ok-Item-clause-grows
+leading_items-returns-in_err-add_leading-in-Ok-Item-clause-grows g t c =
+    λ w start a b s gr. (took (world c.args.self.now) (facts c.args.self.now.sources) g.R.TableRow.table_of g.R.RowRef.shown (values_in c.args.slots.now) c.args.pipe.now (Covers (world c.args.self.now) (values_in c.args.slots.now) c.args.pipe.now) (λ w p. p) _ _ _ c.loop-row.base c.pull.new.self c.in-Ok-Item.item c.loop-row.invariant.log (subst (λ r. IfOk r (λ p. (kept_stream g.R.TableRow.table_of g.R.RowRef.shown c.args.pipe.now.plan c.loop-row.base) ≡ in_front (pulled_value p) (kept_stream g.R.TableRow.table_of g.R.RowRef.shown c.args.pipe.now.plan c.pull.new.self))) (c.in-Ok-Item.is ∙ ap (λ p. Ok p) c.in-Ok-Item.field-0-is) c.pull.ensures.item) (λ w start h i gr. c.pass_item.ensures.grows w start (stage_covered g.R.TableRow.table_of g.R.RowRef.shown (world c.args.self.now) w (values_in c.args.slots.now) c.args.pipe.now h) (source_covered g.R.TableRow.table_of g.R.RowRef.shown (world c.args.self.now) w (values_in c.args.slots.now) c.args.pipe.now h) (slots_pass g.R.TableRow.table_of g.R.RowRef.shown (world c.args.self.now) w (values_in c.args.slots.now) c.args.pipe.now h) i gr)).grows w start (covers_pipe (world c.args.self.now) (values_in c.args.slots.now) c.args.pipe.now w a b s) gr
+
+pub leading_items-returns-in-Some-Fault-clause-grows : goal.leading_items-returns-in-Some-Fault-clause-grows
+leading_items-returns-in-Some-Fault-clause-grows g t c =
+    λ w start a b s gr. (took (world c.args.self.now) (facts c.args.self.now.sources) g.R.TableRow.table_of g.R.RowRef.shown (values_in c.args.slots.now) c.args.pipe.now (Covers (world c.args.self.now) (values_in c.args.slots.now) c.args.pipe.now) (λ w p. p) _ _ _ c.loop-row.base c.pull.new.self c.in-Ok-Item.item c.loop-row.invariant.log (subst (λ r. IfOk r (λ p. (kept_stream g.R.TableRow.table_of g.R.RowRef.shown c.args.pipe.now.plan c.loop-row.base) ≡ in_front (pulled_value p) (kept_stream g.R.TableRow.table_of g.R.RowRef.shown c.args.pipe.now.plan c.pull.new.self))) (c.in-Ok-Item.is ∙ ap (λ p. Ok p) c.in-Ok-Item.field-0-is) c.pull.ensures.item) (λ w start h i gr. c.pass_item.ensures.grows w start (stage_covered g.R.TableRow.table_of g.R.RowRef.shown (world c.args.self.now) w (values_in c.args.slots.now) c.args.pipe.now h) (source_covered g.R.TableRow.table_of g.R.RowRef.shown (world c.args.self.now) w (values_in c.args.slots.now) c.args.pipe.now h) (slots_pass g.R.TableRow.table_of g.R.RowRef.shown (world c.args.self.now) w (values_in c.args.slots.now) c.args.pipe.now h) i gr)).grows w start (covers_pipe (world c.args.self.now) (values_in c.args.slots.now) c.args.pipe.now w a b s) gr
+
+pub leading_items-returns-in-None-clause-grows : goal.leading_items-returns-in-None-clause-grows
+leading_items-returns-in-None-clause-grows g t c =
+    λ w start a b s gr. (took (world c.args.self.now) (facts c.args.self.now.sources) g.R.TableRow.table_of g.R.RowRef.shown (values_in c.args.slots.now) c.args.pipe.now (Covers (world c.args.self.now) (values_in c.args.slots.now) c.args.pipe.now) (λ w p. p) _ _ _ c.loop-row.base c.pull.new.self c.in-Ok-Item.item c.loop-row.invariant.log (subst (λ r. IfOk r (λ p. (kept_stream g.R.TableRow.table_of g.R.RowRef.shown c.args.pipe.now.plan c.loop-row.base) ≡ in_front (pulled_value p) (kept_stream g.R.TableRow.table_of g.R.RowRef.shown c.args.pipe.now.plan c.pull.new.self))) (c.in-Ok-Item.is ∙ ap (λ p. Ok p) c.in-Ok-Item.field-0-is) c.pull.ensures.item) (λ w start h i gr. c.pass_item.ensures.grows w start (stage_covered g.R.TableRow.table_of g.R.RowRef.shown (world c.args.self.now) w (values_in c.args.slots.now) c.args.pipe.now h) (source_covered g.R.TableRow.table_of g.R.RowRef.shown (world c.args.self.now) w (values_in c.args.slots.now) c.args.pipe.now h) (slots_pass g.R.TableRow.table_of g.R.RowRef.shown (world c.args.self.now) w (values_in c.args.slots.now) c.args.pipe.now h) i gr)).grows w start (covers_pipe (world c.args.self.now) (values_in c.args.slots.now) c.args.pipe.now w a b s) gr
 
 pub simple-returns-in_ok-pipe-in-Some-clause-meant : goal.simple-returns-in_ok-pipe-in-Some-clause-meant
 simple-returns-in_ok-pipe-in-Some-clause-meant g t c =
@@ -1879,3 +2014,86 @@ pub simple-returns-in_ok-pipe-in-None-clause-grows : goal.simple-returns-in_ok-p
 simple-returns-in_ok-pipe-in-None-clause-grows g t c =
     λ w start h s gr.
     c.simple_items-in-None.ensures.grows w start (covered_as (world c.args.self.now) w _ _ c.in_ok-pipe-in-None.ensures.source h) (stage_as (world c.args.self.now) w _ _ c.in_ok-pipe-in-None.ensures.stage refl) s gr
+
+pub group_items-loop-row-init : goal.group_items-loop-row-init
+group_items-loop-row-init g t c =
+    record {
+      meant = λ source body s. tallies_begin (world c.args.self.now) (values_in c.args.slots.now) s.key.body.now c.args.selected.now.reads.tallies.items _ _ _ c.in_ok-tallies.ensures.rows (left_opened (world c.args.self.now) (values_in c.args.slots.now) _ _ c.in_ok-base.base c.in_ok-base.ensures.meant);
+      begins = c.in_ok-tallies.ensures.begins ∙ c.in_ok-begins.ensures;
+      log = opened (world c.args.self.now) (facts c.args.self.now.sources) g.R.TableRow.table_of g.R.RowRef.shown (values_in c.args.slots.now) c.args.pipe.now (Covers (world c.args.self.now) (values_in c.args.slots.now) c.args.pipe.now) _ _ c.in_ok-base.base (λ w start p gr. c.open.ensures.grows w start p.source_in p.slots_in gr) (λ w p. c.in_ok-base.ensures.from w p.source_in p.slots_in);
+    }
+
+pub group_items-loop-row-preserved-in-Ok-Row : goal.group_items-loop-row-preserved-in-Ok-Row
+group_items-loop-row-preserved-in-Ok-Row g t c =
+    record {
+      meant = λ source body s.
+          tallies_pulled (world c.args.self.now) (values_in c.args.slots.now) s.key.body.now c.args.selected.now.reads.tallies.items c.loop-row.tallies _ (value.Row c.in-Ok-Row.row ∷ [], end.Done) (items_left (world c.args.self.now) (values_in c.args.slots.now) c.args.pipe.now c.loop-row.base) (items_left (world c.args.self.now) (values_in c.args.slots.now) c.args.pipe.now c.pull.new.self) _ (Some end.Done)
+          ((pulled g.R.TableRow.table_of g.R.RowRef.shown (world c.args.self.now) (values_in c.args.slots.now) c.args.pipe.now c.loop-row.base c.pull.new.self (value.Row c.in-Ok-Row.row) c.requires.planned (subst (λ r. IfOk r (λ p. (kept_stream g.R.TableRow.table_of g.R.RowRef.shown c.args.pipe.now.plan c.loop-row.base) ≡ in_front (pulled_value p) (kept_stream g.R.TableRow.table_of g.R.RowRef.shown c.args.pipe.now.plan c.pull.new.self))) (c.in-Ok-Row.is ∙ ap (λ p. Ok p) c.in-Ok-Row.field-0-is) c.pull.ensures.item)) ∙ ap (λ (s : Stream (Value _)). then_stream s (items_left (world c.args.self.now) (values_in c.args.slots.now) c.args.pipe.now c.pull.new.self)) (row_comes g.R.TableRow.table_of g.R.RowRef.shown (world c.args.self.now) (values_in c.args.slots.now) c.args.pipe.now c.in-Ok-Row.row c.requires.planned c.requires.plain (subst (λ r. IfOk r (IsPulled g.R.TableRow.table_of g.R.RowRef.shown c.args.pipe.now.plan)) (c.in-Ok-Row.is ∙ ap (λ p. Ok p) c.in-Ok-Row.field-0-is) c.pull.ensures.planned)))
+          (tallies_with (world c.args.self.now) (values_in c.args.slots.now) s.key.body.now c.args.selected.now.reads.tallies.items c.loop-row.tallies _ (value.Row c.in-Ok-Row.row) (c.in_ok-add-in-Ok-Row.ensures.added c.if-not-branch.false (world c.args.self.now) (values_in c.args.slots.now) s.key c.args.selected.now.reads.tallies.items c.loop-row.invariant.begins s.columns s.cell s.numbers)) refl (c.loop-row.invariant.meant source body s);
+      begins = c.in_ok-add-in-Ok-Row.ensures.begins ∙ c.loop-row.invariant.begins;
+      log = took (world c.args.self.now) (facts c.args.self.now.sources) g.R.TableRow.table_of g.R.RowRef.shown (values_in c.args.slots.now) c.args.pipe.now (Covers (world c.args.self.now) (values_in c.args.slots.now) c.args.pipe.now) (λ w p. p) _ _ _ c.loop-row.base c.pull.new.self (value.Row c.in-Ok-Row.row) c.loop-row.invariant.log (subst (λ r. IfOk r (λ p. (kept_stream g.R.TableRow.table_of g.R.RowRef.shown c.args.pipe.now.plan c.loop-row.base) ≡ in_front (pulled_value p) (kept_stream g.R.TableRow.table_of g.R.RowRef.shown c.args.pipe.now.plan c.pull.new.self))) (c.in-Ok-Row.is ∙ ap (λ p. Ok p) c.in-Ok-Row.field-0-is) c.pull.ensures.item) (λ w start h i gr. gr);
+    }
+
+pub group_items-loop-row-preserved : goal.group_items-loop-row-preserved
+group_items-loop-row-preserved g t c =
+    record {
+      meant = λ source body s.
+          tallies_pulled (world c.args.self.now) (values_in c.args.slots.now) s.key.body.now c.args.selected.now.reads.tallies.items c.loop-row.tallies _ (comes g.R.TableRow.table_of g.R.RowRef.shown (world c.args.self.now) (values_in c.args.slots.now) c.args.pipe.now c.in-Ok-Item.item) (items_left (world c.args.self.now) (values_in c.args.slots.now) c.args.pipe.now c.loop-row.base) (items_left (world c.args.self.now) (values_in c.args.slots.now) c.args.pipe.now c.pull.new.self) _ c.in_ok-add_tallies-in-Ok-Item.field-0
+          (pulled g.R.TableRow.table_of g.R.RowRef.shown (world c.args.self.now) (values_in c.args.slots.now) c.args.pipe.now c.loop-row.base c.pull.new.self c.in-Ok-Item.item c.requires.planned (subst (λ r. IfOk r (λ p. (kept_stream g.R.TableRow.table_of g.R.RowRef.shown c.args.pipe.now.plan c.loop-row.base) ≡ in_front (pulled_value p) (kept_stream g.R.TableRow.table_of g.R.RowRef.shown c.args.pipe.now.plan c.pull.new.self))) (c.in-Ok-Item.is ∙ ap (λ p. Ok p) c.in-Ok-Item.field-0-is) c.pull.ensures.item))
+          (subst (λ (made : Stream (Value _)). TalliesOn (world c.args.self.now) (values_in c.args.slots.now) s.key.body.now c.args.selected.now.reads.tallies.items c.loop-row.tallies made c.in_ok-add_tallies-in-Ok-Item.field-0 c.add_tallies.new.tallies) c.in_ok-outcome-in-Ok-Item.ensures.meant (c.in_ok-add_tallies-in-Ok-Item.ensures.tallies (world c.args.self.now) (values_in c.args.slots.now) s.key c.args.selected.now.reads.tallies.items c.loop-row.invariant.begins s.columns s.cell s.numbers)) (c.in-Some-Done.is ∙ ap (λ e. Some e) c.in-Some-Done.field-0-is) (c.loop-row.invariant.meant source body s);
+      begins = c.in_ok-add_tallies-in-Ok-Item.ensures.begins ∙ c.loop-row.invariant.begins;
+      log = took (world c.args.self.now) (facts c.args.self.now.sources) g.R.TableRow.table_of g.R.RowRef.shown (values_in c.args.slots.now) c.args.pipe.now (Covers (world c.args.self.now) (values_in c.args.slots.now) c.args.pipe.now) (λ w p. p) _ _ _ c.loop-row.base c.pull.new.self c.in-Ok-Item.item c.loop-row.invariant.log (subst (λ r. IfOk r (λ p. (kept_stream g.R.TableRow.table_of g.R.RowRef.shown c.args.pipe.now.plan c.loop-row.base) ≡ in_front (pulled_value p) (kept_stream g.R.TableRow.table_of g.R.RowRef.shown c.args.pipe.now.plan c.pull.new.self))) (c.in-Ok-Item.is ∙ ap (λ p. Ok p) c.in-Ok-Item.field-0-is) c.pull.ensures.item) (λ w start h i gr. c.pass_item.ensures.grows w start (stage_covered g.R.TableRow.table_of g.R.RowRef.shown (world c.args.self.now) w (values_in c.args.slots.now) c.args.pipe.now h) (source_covered g.R.TableRow.table_of g.R.RowRef.shown (world c.args.self.now) w (values_in c.args.slots.now) c.args.pipe.now h) (slots_pass g.R.TableRow.table_of g.R.RowRef.shown (world c.args.self.now) w (values_in c.args.slots.now) c.args.pipe.now h) i gr);
+    }
+
+pub group_items-returns-in_err-outcome-in-Ok-Item-clause-grows : goal.group_items-returns-in_err-outcome-in-Ok-Item-clause-grows
+group_items-returns-in_err-outcome-in-Ok-Item-clause-grows g t c =
+    λ w start a b s gr. (took (world c.args.self.now) (facts c.args.self.now.sources) g.R.TableRow.table_of g.R.RowRef.shown (values_in c.args.slots.now) c.args.pipe.now (Covers (world c.args.self.now) (values_in c.args.slots.now) c.args.pipe.now) (λ w p. p) _ _ _ c.loop-row.base c.pull.new.self c.in-Ok-Item.item c.loop-row.invariant.log (subst (λ r. IfOk r (λ p. (kept_stream g.R.TableRow.table_of g.R.RowRef.shown c.args.pipe.now.plan c.loop-row.base) ≡ in_front (pulled_value p) (kept_stream g.R.TableRow.table_of g.R.RowRef.shown c.args.pipe.now.plan c.pull.new.self))) (c.in-Ok-Item.is ∙ ap (λ p. Ok p) c.in-Ok-Item.field-0-is) c.pull.ensures.item) (λ w start h i gr. c.pass_item.ensures.grows w start (stage_covered g.R.TableRow.table_of g.R.RowRef.shown (world c.args.self.now) w (values_in c.args.slots.now) c.args.pipe.now h) (source_covered g.R.TableRow.table_of g.R.RowRef.shown (world c.args.self.now) w (values_in c.args.slots.now) c.args.pipe.now h) (slots_pass g.R.TableRow.table_of g.R.RowRef.shown (world c.args.self.now) w (values_in c.args.slots.now) c.args.pipe.now h) i gr)).grows w start (covers_pipe (world c.args.self.now) (values_in c.args.slots.now) c.args.pipe.now w a b s) gr
+
+pub group_items-returns-in_err-add_tallies-in-Ok-Item-clause-grows : goal.group_items-returns-in_err-add_tallies-in-Ok-Item-clause-grows
+group_items-returns-in_err-add_tallies-in-Ok-Item-clause-grows g t c =
+    λ w start a b s gr. (took (world c.args.self.now) (facts c.args.self.now.sources) g.R.TableRow.table_of g.R.RowRef.shown (values_in c.args.slots.now) c.args.pipe.now (Covers (world c.args.self.now) (values_in c.args.slots.now) c.args.pipe.now) (λ w p. p) _ _ _ c.loop-row.base c.pull.new.self c.in-Ok-Item.item c.loop-row.invariant.log (subst (λ r. IfOk r (λ p. (kept_stream g.R.TableRow.table_of g.R.RowRef.shown c.args.pipe.now.plan c.loop-row.base) ≡ in_front (pulled_value p) (kept_stream g.R.TableRow.table_of g.R.RowRef.shown c.args.pipe.now.plan c.pull.new.self))) (c.in-Ok-Item.is ∙ ap (λ p. Ok p) c.in-Ok-Item.field-0-is) c.pull.ensures.item) (λ w start h i gr. c.pass_item.ensures.grows w start (stage_covered g.R.TableRow.table_of g.R.RowRef.shown (world c.args.self.now) w (values_in c.args.slots.now) c.args.pipe.now h) (source_covered g.R.TableRow.table_of g.R.RowRef.shown (world c.args.self.now) w (values_in c.args.slots.now) c.args.pipe.now h) (slots_pass g.R.TableRow.table_of g.R.RowRef.shown (world c.args.self.now) w (values_in c.args.slots.now) c.args.pipe.now h) i gr)).grows w start (covers_pipe (world c.args.self.now) (values_in c.args.slots.now) c.args.pipe.now w a b s) gr
+
+pub group_items-returns-in-Some-Fault-clause-grows : goal.group_items-returns-in-Some-Fault-clause-grows
+group_items-returns-in-Some-Fault-clause-grows g t c =
+    λ w start a b s gr. (took (world c.args.self.now) (facts c.args.self.now.sources) g.R.TableRow.table_of g.R.RowRef.shown (values_in c.args.slots.now) c.args.pipe.now (Covers (world c.args.self.now) (values_in c.args.slots.now) c.args.pipe.now) (λ w p. p) _ _ _ c.loop-row.base c.pull.new.self c.in-Ok-Item.item c.loop-row.invariant.log (subst (λ r. IfOk r (λ p. (kept_stream g.R.TableRow.table_of g.R.RowRef.shown c.args.pipe.now.plan c.loop-row.base) ≡ in_front (pulled_value p) (kept_stream g.R.TableRow.table_of g.R.RowRef.shown c.args.pipe.now.plan c.pull.new.self))) (c.in-Ok-Item.is ∙ ap (λ p. Ok p) c.in-Ok-Item.field-0-is) c.pull.ensures.item) (λ w start h i gr. c.pass_item.ensures.grows w start (stage_covered g.R.TableRow.table_of g.R.RowRef.shown (world c.args.self.now) w (values_in c.args.slots.now) c.args.pipe.now h) (source_covered g.R.TableRow.table_of g.R.RowRef.shown (world c.args.self.now) w (values_in c.args.slots.now) c.args.pipe.now h) (slots_pass g.R.TableRow.table_of g.R.RowRef.shown (world c.args.self.now) w (values_in c.args.slots.now) c.args.pipe.now h) i gr)).grows w start (covers_pipe (world c.args.self.now) (values_in c.args.slots.now) c.args.pipe.now w a b s) gr
+
+pub group_items-returns-in-None-clause-grows : goal.group_items-returns-in-None-clause-grows
+group_items-returns-in-None-clause-grows g t c =
+    λ w start a b s gr. (took (world c.args.self.now) (facts c.args.self.now.sources) g.R.TableRow.table_of g.R.RowRef.shown (values_in c.args.slots.now) c.args.pipe.now (Covers (world c.args.self.now) (values_in c.args.slots.now) c.args.pipe.now) (λ w p. p) _ _ _ c.loop-row.base c.pull.new.self c.in-Ok-Item.item c.loop-row.invariant.log (subst (λ r. IfOk r (λ p. (kept_stream g.R.TableRow.table_of g.R.RowRef.shown c.args.pipe.now.plan c.loop-row.base) ≡ in_front (pulled_value p) (kept_stream g.R.TableRow.table_of g.R.RowRef.shown c.args.pipe.now.plan c.pull.new.self))) (c.in-Ok-Item.is ∙ ap (λ p. Ok p) c.in-Ok-Item.field-0-is) c.pull.ensures.item) (λ w start h i gr. c.pass_item.ensures.grows w start (stage_covered g.R.TableRow.table_of g.R.RowRef.shown (world c.args.self.now) w (values_in c.args.slots.now) c.args.pipe.now h) (source_covered g.R.TableRow.table_of g.R.RowRef.shown (world c.args.self.now) w (values_in c.args.slots.now) c.args.pipe.now h) (slots_pass g.R.TableRow.table_of g.R.RowRef.shown (world c.args.self.now) w (values_in c.args.slots.now) c.args.pipe.now h) i gr)).grows w start (covers_pipe (world c.args.self.now) (values_in c.args.slots.now) c.args.pipe.now w a b s) gr
+
+pub group_items-returns-in-Some-Fault-clause-meant : goal.group_items-returns-in-Some-Fault-clause-meant
+group_items-returns-in-Some-Fault-clause-meant g t c =
+    λ source body s is.
+    groups_stopped (world c.args.self.now) (values_in c.args.slots.now) c.args.selected.now.reads.tallies.items s.fields c.args.selected.now.reads.members.items s.read c.args.selected.now.items.now s.key.body.now s.element s.item source body c.add_tallies.new.tallies (end.Fault c.in-Some-Fault.fault) c.in-Some-Fault.fault (all_items (world c.args.self.now) (values_in c.args.slots.now) c.args.pipe.now) _ s.source_is is refl c.new-in-Some-Fault.ensures
+    (tallies_stopped (world c.args.self.now) (values_in c.args.slots.now) s.key.body.now c.args.selected.now.reads.tallies.items c.loop-row.tallies _ (comes g.R.TableRow.table_of g.R.RowRef.shown (world c.args.self.now) (values_in c.args.slots.now) c.args.pipe.now c.in-Ok-Item.item) (items_left (world c.args.self.now) (values_in c.args.slots.now) c.args.pipe.now c.loop-row.base) (items_left (world c.args.self.now) (values_in c.args.slots.now) c.args.pipe.now c.pull.new.self) _ c.in_ok-add_tallies-in-Ok-Item.field-0 c.in-Some-Fault.fault
+    (pulled g.R.TableRow.table_of g.R.RowRef.shown (world c.args.self.now) (values_in c.args.slots.now) c.args.pipe.now c.loop-row.base c.pull.new.self c.in-Ok-Item.item c.requires.planned (subst (λ r. IfOk r (λ p. (kept_stream g.R.TableRow.table_of g.R.RowRef.shown c.args.pipe.now.plan c.loop-row.base) ≡ in_front (pulled_value p) (kept_stream g.R.TableRow.table_of g.R.RowRef.shown c.args.pipe.now.plan c.pull.new.self))) (c.in-Ok-Item.is ∙ ap (λ p. Ok p) c.in-Ok-Item.field-0-is) c.pull.ensures.item))
+    (subst (λ (made : Stream (Value _)). TalliesOn (world c.args.self.now) (values_in c.args.slots.now) s.key.body.now c.args.selected.now.reads.tallies.items c.loop-row.tallies made c.in_ok-add_tallies-in-Ok-Item.field-0 c.add_tallies.new.tallies) c.in_ok-outcome-in-Ok-Item.ensures.meant (c.in_ok-add_tallies-in-Ok-Item.ensures.tallies (world c.args.self.now) (values_in c.args.slots.now) s.key c.args.selected.now.reads.tallies.items c.loop-row.invariant.begins s.columns s.cell s.numbers)) (c.in-Some-Fault.is ∙ ap (λ e. Some e) c.in-Some-Fault.field-0-is) (c.loop-row.invariant.meant source body.now s))
+
+pub group_items-returns-in-Err-clause-meant : goal.group_items-returns-in-Err-clause-meant
+group_items-returns-in-Err-clause-meant g t c =
+    λ source body s is.
+    groups_until (world c.args.self.now) (values_in c.args.slots.now) c.args.selected.now.reads.tallies.items s.fields c.args.selected.now.reads.members.items s.read c.args.selected.now.items.now s.key.body.now s.element s.item source body c.loop-row.tallies c.in-Err.end (all_items (world c.args.self.now) (values_in c.args.slots.now) c.args.pipe.now) _ s.source_is s.body_is is
+    (tallies_ended (world c.args.self.now) (values_in c.args.slots.now) s.key.body.now c.args.selected.now.reads.tallies.items c.loop-row.tallies (items_left (world c.args.self.now) (values_in c.args.slots.now) c.args.pipe.now c.loop-row.base) _ c.in-Err.end
+    (next_ended g.R.TableRow.table_of g.R.RowRef.shown (world c.args.self.now) (values_in c.args.slots.now) c.args.pipe.now c.loop-row.base c.loop-row.base c.in-Err.end c.requires.planned refl (subst (λ r. IfErr r (λ e. (kept_stream g.R.TableRow.table_of g.R.RowRef.shown c.args.pipe.now.plan c.loop-row.base) ≡ ([], e))) c.in-Err.is c.pull.ensures.end))
+    (c.loop-row.invariant.meant source body.now s))
+    c.in_ok-records_until-in-Err.ensures
+
+pub group_items-returns-in-Err-clause-grows : goal.group_items-returns-in-Err-clause-grows
+group_items-returns-in-Err-clause-grows g t c =
+    λ w start a b s gr. c.loop-row.invariant.log.grows w start (covers_pipe (world c.args.self.now) (values_in c.args.slots.now) c.args.pipe.now w a b s) gr
+
+pub group_items-returns-in_err-records_until-in-Err-clause-grows : goal.group_items-returns-in_err-records_until-in-Err-clause-grows
+group_items-returns-in_err-records_until-in-Err-clause-grows g t c =
+    λ w start a b s gr. c.loop-row.invariant.log.grows w start (covers_pipe (world c.args.self.now) (values_in c.args.slots.now) c.args.pipe.now w a b s) gr
+
+pub simple_items-returns-in-Some-items_ref-clause-meant : goal.simple_items-returns-in-Some-items_ref-clause-meant
+simple_items-returns-in-Some-items_ref-clause-meant g t c =
+    subst (λ m. IsAnswer m c.tally_items.result)
+    (sym (tally_answers c.args.method c.in-Some.tally (sym c.of.ensures ∙ c.in-Some.is) c.args.of.now (all_items (world c.args.self.now) (values_in c.args.slots.now) c.args.pipe.now)))
+    (subst (λ s. IsAnswer (as_value (tallied c.args.of.now c.in-Some.tally (through_stage (world c.args.self.now) (values_in c.args.slots.now) c.args.pipe.now.stage s))) c.tally_items.result)
+    (sym (c.in-Some-items_ref.ensures (world c.args.self.now))) c.tally_items.ensures.meant)
+
+pub simple_items-returns-in-Some-items_ref-clause-grows : goal.simple_items-returns-in-Some-items_ref-clause-grows
+simple_items-returns-in-Some-items_ref-clause-grows g t c =
+    λ w start a b s gr.
+    c.tally_items.ensures.grows w start b s (stream_passes (world c.args.self.now) w c.args.pipe.now.source.now (values_in c.args.slots.now) _ (sym (c.in-Some-items_ref.ensures (world c.args.self.now))) a s) gr

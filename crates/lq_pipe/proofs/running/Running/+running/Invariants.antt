@@ -8,7 +8,7 @@ use Rattle.lq_language.specs.Enumerable.{all, contains}
 use Rattle.lq_language.specs.Stream.{select_by, then_ending, first_keys, groups_of}
 use Rattle.lq_value.specs.SameAndOrder.{same_values}
 use Rattle.lq_value.specs.declared.value.End.TheVariants as end
-use Rattle.lq_tree.specs.declared.tree.Form.{size-Form}
+use Rattle.lq_tree.specs.declared.tree.Form.{Form, size-Form}
 use Rattle.lq_tree.specs.FormMeaning.{members_of, matched}
 use Rattle.lq_tree.specs.Watches.{Watch, are_covered_fields, are_covered_keys, have_watched_rows, is_covered, is_covered_join}
 use Rattle.lq_operators.specs.Firsts.{firsts_in}
@@ -17,6 +17,7 @@ use Rattle.lq_operators.specs.Matching.{pairs_of}
 use Rattle.lq_operators.specs.Tallies.{tallied}
 use Rattle.lq_plan.specs.Arrangements.{column_of, key_at}
 use Rattle.lq_plan.specs.Counts.{read_first}
+use Rattle.lq_plan.specs.Leading.{bodies_of}
 use Rattle.lq_plan.specs.Lists.{field_means}
 use Rattle.lq_plan.specs.Meanings.{holds_of, items_meant, value_of_item}
 use Rattle.lq_plan.specs.Handing.{StaysOfRows, handed_out, rows_to_come}
@@ -25,8 +26,12 @@ use Rattle.lq_plan.specs.PlannedRows.{kept_stream}
 use Rattle.lq_plan.specs.Pulling.{through_select, through_stage}
 use Rattle.lq_plan.specs.Slots.{values_in}
 use Rattle.lq_plan.specs.Watching.{facts, matches_pass, watches}
+use Rattle.lq_plan.specs.Aggregates.{begins_in}
+use Rattle.lq_pipe.specs.SelectedGroups.{AreSelected, HasTallies}
 use Rattle.lq_pipe.specs.Handing.{Passes}
 use Rattle.lq_pipe.specs.Items.{item_expansion, item_join, keys_and_elements, stream_expansion, stream_join}
+use Rattle.lq_pipe.specs.Joins.{sought}
+use Rattle.lq_pipe.specs.Leading.{Leads}
 use Rattle.lq_pipe.specs.Runs.{Grown, HasTaken, covers, covers_stage, world}
 use Rattle.lq_pipe.proofs.LogLemmas.{Covers, Keeps}
 use Rattle.lq_pipe.proofs.PullLaws.{Comes}
@@ -117,19 +122,13 @@ abbrev pub decreases-join_item : goal.decreases-join_item
 decreases-join_item g l = 32 * goal.size-join_item g l + 8
 
 abbrev pub decreases-join_matches : goal.decreases-join_matches
-decreases-join_matches g l = 32 * size-Form l.body.now + 5
+decreases-join_matches g l = 32 * size-Form l.lambda.now.body.now + 5
 
 abbrev pub decreases-join_place : goal.decreases-join_place
 decreases-join_place g l = 32 * size-Form l.lambda.now.body.now + 4
 
-abbrev pub decreases-join_group : goal.decreases-join_group
-decreases-join_group g l = 32 * size-Form l.body.now + 5
-
 abbrev pub decreases-join : goal.decreases-join
 decreases-join g l = 32 * max (goal.size-join g l) (size-Form l.source.now) + 20
-
-abbrev pub decreases-key_and_element : goal.decreases-key_and_element
-decreases-key_and_element g l = 32 * max (size-Form l.key.now.body.now) (size-Form l.element.now.body.now) + 5
 
 abbrev pub decreases-group_item : goal.decreases-group_item
 decreases-group_item g l = 32 * max (size-Form l.key.now.body.now) (size-Form l.element.now.body.now) + 8
@@ -171,7 +170,16 @@ abbrev pub decreases-base_of : goal.decreases-base_of
 decreases-base_of g l = 32 * size-Form l.form.now + 4
 
 abbrev pub decreases-open : goal.decreases-open
-decreases-open g l = 32 * size-Form l.form.now + 6
+decreases-open g l = 32 * size-Form l.form.now + 8
+
+abbrev pub decreases-first_sorted : goal.decreases-first_sorted
+decreases-first_sorted g l = 32 * size-Form l.form.now + 2
+
+abbrev pub decreases-leading_items : goal.decreases-leading_items
+decreases-leading_items g l = 32 * pipe_size l.pipe.now + 16
+
+abbrev pub decreases-group_items : goal.decreases-group_items
+decreases-group_items g l = 32 * pipe_size l.pipe.now + 16
 
 abbrev pub decreases-pass : goal.decreases-pass
 decreases-pass g l = 32 * size-Form l.form.now
@@ -187,9 +195,6 @@ decreases-pass_item g l = 32 * pipe_size l.pipe.now + 13
 
 abbrev pub decreases-next : goal.decreases-next
 decreases-next g l = 32 * pipe_size l.pipe.now + 14
-
-abbrev pub decreases-tally : goal.decreases-tally
-decreases-tally g l = 32 * pipe_size l.pipe.now + 17
 
 abbrev pub decreases-tally_pulled : goal.decreases-tally_pulled
 decreases-tally_pulled g l = 32 * pipe_size l.pipe.now + 16
@@ -256,9 +261,9 @@ invariant-tally_lambda-loop-item g l =
 abbrev pub invariant-join_matches-loop-place : goal.invariant-join_matches-loop-place
 invariant-join_matches-loop-place g l =
     record {
-      meant : GivesAt l.fn.matches l.fn.key (value_of_item (world l.fn.self) l.fn.body l.fn.slots) l.places
-          (then_ending l.fn.values end.Done (select_by (value_of_item (world l.fn.self) l.fn.body l.fn.slots) (matched (world l.fn.self) false l.fn.key (pairs_of l.fn.matches)) end.Done)) l.values l.place-index;
-      grows : ((w : Watch _) (start : List Call) → covers l.fn.self w l.fn.body ≡ true → matches_pass w (pairs_of l.fn.matches) ≡ true → watches w l.fn.slots ≡ true → Grown l.fn.self w start l.fn.log → Grown l.fn.self w start l.log);
+      meant : GivesAt l.fn.matches (sought l.fn.key) (value_of_item (world l.fn.self) l.fn.lambda.body.now l.fn.slots) l.places
+          (then_ending l.fn.values end.Done (select_by (value_of_item (world l.fn.self) l.fn.lambda.body.now l.fn.slots) (matched (world l.fn.self) false (sought l.fn.key) (pairs_of l.fn.matches)) end.Done)) l.values l.place-index;
+      grows : ((w : Watch _) (start : List Call) → covers l.fn.self w l.fn.lambda.body.now ≡ true → matches_pass w (pairs_of l.fn.matches) ≡ true → watches w l.fn.slots ≡ true → Grown l.fn.self w start l.fn.log → Grown l.fn.self w start l.log);
     }
 
 -- the members so far, and those that are left
@@ -408,3 +413,27 @@ invariant-distinct-loop-pulled g l =
 
 abbrev pub decreases-distinct-loop-pulled : goal.decreases-distinct-loop-pulled
 decreases-distinct-loop-pulled g l = length (kept_stream g.R.TableRow.table_of g.R.RowRef.shown l.fn.pipe.plan l.base).0
+
+-- the first ones so far, and the items that are left
+abbrev pub invariant-leading_items-loop-row : goal.invariant-leading_items-loop-row
+invariant-leading_items-loop-row g l =
+    record {
+      meant : Leads (world l.fn.self) (values_in l.fn.slots) (bodies_of l.fn.lambdas) l.fn.directions l.fn.wanted l.leading (items_left (world l.fn.self) (values_in l.fn.slots) l.fn.pipe l.base) (all_items (world l.fn.self) (values_in l.fn.slots) l.fn.pipe);
+      counted : length l.fn.lambdas ≡ length l.leading.directions;
+      log : Keeps (world l.fn.self) (facts l.fn.self.sources) g.R.TableRow.table_of g.R.RowRef.shown (values_in l.fn.slots) l.fn.pipe (Covers (world l.fn.self) (values_in l.fn.slots) l.fn.pipe) l.fn.log l.log l.base;
+    }
+
+abbrev pub decreases-leading_items-loop-row : goal.decreases-leading_items-loop-row
+decreases-leading_items-loop-row g l = length (kept_stream g.R.TableRow.table_of g.R.RowRef.shown l.fn.pipe.plan l.base).0
+
+-- the tallies so far, and the items that are left
+abbrev pub invariant-group_items-loop-row : goal.invariant-group_items-loop-row
+invariant-group_items-loop-row g l =
+    record {
+      meant : ((source body : Form) (s : AreSelected l.fn.self l.fn.slots source body l.fn.selected) → HasTallies (world l.fn.self) (values_in l.fn.slots) s.key.body.now l.fn.selected.reads.tallies.items l.tallies (items_left (world l.fn.self) (values_in l.fn.slots) l.fn.pipe l.base) (all_items (world l.fn.self) (values_in l.fn.slots) l.fn.pipe));
+      begins : l.tallies.begins ≡ begins_in l.fn.selected.reads.tallies.items;
+      log : Keeps (world l.fn.self) (facts l.fn.self.sources) g.R.TableRow.table_of g.R.RowRef.shown (values_in l.fn.slots) l.fn.pipe (Covers (world l.fn.self) (values_in l.fn.slots) l.fn.pipe) l.fn.log l.log l.base;
+    }
+
+abbrev pub decreases-group_items-loop-row : goal.decreases-group_items-loop-row
+decreases-group_items-loop-row g l = length (kept_stream g.R.TableRow.table_of g.R.RowRef.shown l.fn.pipe.plan l.base).0

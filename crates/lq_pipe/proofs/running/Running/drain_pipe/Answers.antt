@@ -27,25 +27,25 @@ loop-base-init g c = (
 pub returns-in_err-item-clause-grows : goal.returns-in_err-item-clause-grows
 returns-in_err-item-clause-grows g c =
     λ w start a b gr.
-    (went_on (world c.args.self.now) (facts c.args.self.now.sources) g.R.TableRow.table_of g.R.RowRef.shown (values_in slots.Empty) c.args.pipe.now (Covers (world c.args.self.now) (values_in slots.Empty) c.args.pipe.now) (λ w p. p) _ _ _ c.loop-base.base c.next.new.base c.loop-base.invariant.1 c.next.ensures.pulled).grows w start
+    (went_on (world c.args.self.now) (facts c.args.self.now.sources) g.R.TableRow.table_of g.R.RowRef.shown (values_in slots.Empty) c.args.pipe.now (Covers (world c.args.self.now) (values_in slots.Empty) c.args.pipe.now) (λ w p. p) _ _ _ c.loop-base.base c.next_in_place.new.base c.loop-base.invariant.1 c.next_in_place.ensures.pulled).grows w start
     (covers_pipe (world c.args.self.now) (values_in slots.Empty) c.args.pipe.now w a b (ap (have_watched_rows w) no_values)) gr
 
 pub loop-base-preserved : goal.loop-base-preserved
 loop-base-preserved g c = (
   remains_on g.K.Sink.takes (all_items (world c.args.self.now) (values_in slots.Empty) c.args.pipe.now) c.args.sink.now (items_left (world c.args.self.now) (values_in slots.Empty) c.args.pipe.now c.loop-base.base) c.loop-base.sink c.in-Ok.item
-      (items_left (world c.args.self.now) (values_in slots.Empty) c.args.pipe.now c.next.new.base) c.take.new.self c.loop-base.invariant.0
-      (subst (λ s. Steps (items_left (world c.args.self.now) (values_in slots.Empty) c.args.pipe.now c.loop-base.base) s (items_left (world c.args.self.now) (values_in slots.Empty) c.args.pipe.now c.next.new.base)) c.in-Ok.is c.in_ok-item.ensures.meant) c.in-Go.ensures,
-  went_on (world c.args.self.now) (facts c.args.self.now.sources) g.R.TableRow.table_of g.R.RowRef.shown (values_in slots.Empty) c.args.pipe.now (Covers (world c.args.self.now) (values_in slots.Empty) c.args.pipe.now) (λ w p. p) _ _ _ c.loop-base.base c.next.new.base c.loop-base.invariant.1 c.next.ensures.pulled,
+      (items_left (world c.args.self.now) (values_in slots.Empty) c.args.pipe.now c.next_in_place.new.base) c.take.new.self c.loop-base.invariant.0
+      (subst (λ s. Steps (items_left (world c.args.self.now) (values_in slots.Empty) c.args.pipe.now c.loop-base.base) s (items_left (world c.args.self.now) (values_in slots.Empty) c.args.pipe.now c.next_in_place.new.base)) c.in-Ok.is c.in_ok-item.ensures.meant) c.in-Go.ensures,
+  went_on (world c.args.self.now) (facts c.args.self.now.sources) g.R.TableRow.table_of g.R.RowRef.shown (values_in slots.Empty) c.args.pipe.now (Covers (world c.args.self.now) (values_in slots.Empty) c.args.pipe.now) (λ w p. p) _ _ _ c.loop-base.base c.next_in_place.new.base c.loop-base.invariant.1 c.next_in_place.ensures.pulled,
 )
 
 pub returns-in-Stop-clause-grows : goal.returns-in-Stop-clause-grows
 returns-in-Stop-clause-grows g c =
     λ w start a b gr.
-    (went_on (world c.args.self.now) (facts c.args.self.now.sources) g.R.TableRow.table_of g.R.RowRef.shown (values_in slots.Empty) c.args.pipe.now (Covers (world c.args.self.now) (values_in slots.Empty) c.args.pipe.now) (λ w p. p) _ _ _ c.loop-base.base c.next.new.base c.loop-base.invariant.1 c.next.ensures.pulled).grows w start
+    (went_on (world c.args.self.now) (facts c.args.self.now.sources) g.R.TableRow.table_of g.R.RowRef.shown (values_in slots.Empty) c.args.pipe.now (Covers (world c.args.self.now) (values_in slots.Empty) c.args.pipe.now) (λ w p. p) _ _ _ c.loop-base.base c.next_in_place.new.base c.loop-base.invariant.1 c.next_in_place.ensures.pulled).grows w start
     (covers_pipe (world c.args.self.now) (values_in slots.Empty) c.args.pipe.now w a b (ap (have_watched_rows w) no_values)) gr
 
 pub returns-in-Err-clause-grows : goal.returns-in-Err-clause-grows
 returns-in-Err-clause-grows g c =
     λ w start a b gr.
-    (went_on (world c.args.self.now) (facts c.args.self.now.sources) g.R.TableRow.table_of g.R.RowRef.shown (values_in slots.Empty) c.args.pipe.now (Covers (world c.args.self.now) (values_in slots.Empty) c.args.pipe.now) (λ w p. p) _ _ _ c.loop-base.base c.next.new.base c.loop-base.invariant.1 c.next.ensures.pulled).grows w start
+    (went_on (world c.args.self.now) (facts c.args.self.now.sources) g.R.TableRow.table_of g.R.RowRef.shown (values_in slots.Empty) c.args.pipe.now (Covers (world c.args.self.now) (values_in slots.Empty) c.args.pipe.now) (λ w p. p) _ _ _ c.loop-base.base c.next_in_place.new.base c.loop-base.invariant.1 c.next_in_place.ensures.pulled).grows w start
     (covers_pipe (world c.args.self.now) (values_in slots.Empty) c.args.pipe.now w a b (ap (have_watched_rows w) no_values)) gr

@@ -1,9 +1,6 @@
-use Rattle.std.proofs.Common.{rules}
 use Rattle.lq_plan.specs.Slots.{values_in}
-use Rattle.lq_plan.proofs.PreparedLemmas.{own_cell_at}
+use Rattle.lq_plan.proofs.SlotLaws.{none_more}
 use Rattle.lq_plan.proofs.sources.Sources.cell_place.Goals as goal
 
 pub returns : goal.returns
-returns g c =
-    own_cell_at g.R.TableRow.table_of g.R.RowRef.shown (values_in c.args.slots.now) g.S.Rows.left (g.H.Asks.known c.args.self.now.hosts.now) c.args.self.now.tables.now c.args.of.now c.get.result.now c.in-Slot.slot c.in-Column.number
-    c.args.table c.in-Column.column c.in_ok-_name._name.now c.args.self.now.distinct (search (rules, c.in-Column.is, c.get.ensures)) (search (rules, c.in-Slot.is, c.get.ensures)) (search rules) (c.is_next.ensures (search rules)) (search (rules, c.in_ok-_name.ensures))
+returns g c = c.cell_place_behind.ensures (values_in c.args.slots.now) (none_more (values_in c.args.slots.now))
