@@ -36,9 +36,9 @@ use Rattle.lq_plan.specs.declared.slots.Slots as values
 use Rattle.lq_plan.specs.declared.sources.Sources.{Sources}
 use Rattle.lq_plan.specs.declared.tables.TableRow as Rows
 use Rattle.lq_plan.specs.declared.stages.Stage.TheVariants as stage
-use Rattle.lq_plan.proofs.AggregateLemmas.{every_so, record_is}
+use Rattle.lq_plan.proofs.AggregateLaws.{every_so, record_is}
 use Rattle.lq_plan.proofs.FormLaws.{form_group_by}
-use Rattle.lq_plan.proofs.LeadingLemmas.{all_behind}
+use Rattle.lq_plan.proofs.LeadingLaws.{all_behind}
 use Rattle.lq_plan.proofs.PullLaws.{stream_sequence}
 use Rattle.lq_pipe.specs.SelectedGroups.{HasNumbers, HasTallies, TalliesOn, record_of_group, records_of, records_until}
 use Rattle.std.specs.Borrow.{Bor}

@@ -30,7 +30,7 @@ use Rattle.lq_plan.specs.declared.bases.Base.{Base}
 use Rattle.lq_plan.specs.declared.pipes.Pipe.{Pipe}
 use Rattle.lq_plan.specs.declared.stages.Stage.{Stage}
 use Rattle.lq_plan.specs.declared.stages.Stage.TheVariants as stage
-use Rattle.lq_plan.proofs.LeadingLemmas.{all_behind, order_leads, order_stops}
+use Rattle.lq_plan.proofs.LeadingLaws.{all_behind, order_leads, order_stops}
 use Rattle.lq_plan.proofs.PlanLaws.{row_says}
 use Rattle.lq_plan.proofs.PullLaws.{base_item, each_each, each_one, stage_item, stage_items}
 use Rattle.lq_plan.proofs.WatchLaws.{read_passes}

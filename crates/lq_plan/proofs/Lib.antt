@@ -1,4 +1,4 @@
-pub mod AggregateLemmas
+pub mod AggregateLaws
 pub mod ArrangementLaws
 pub mod ArrangementLemmas
 pub mod BaseLemmas
@@ -6,7 +6,7 @@ pub mod CellLemmas
 pub mod FindingLemmas
 pub mod FirstLemmas
 pub mod FormLaws
-pub mod LeadingLemmas
+pub mod LeadingLaws
 pub mod PartLemmas
 pub mod PassingLemmas
 pub mod PlanLaws

@@ -1,7 +1,7 @@
 use Rattle.std.proofs.Common.{◌≡◌, ◌∷◌, ◌++◌, ◌∙◌, [], ap, refl, subst, sym}
 use Rattle.lq_operators.specs.Leading.{HasLeading}
 use Rattle.lq_plan.specs.Leading.{HasKeys}
-use Rattle.lq_plan.proofs.LeadingLemmas.{key_read}
+use Rattle.lq_plan.proofs.LeadingLaws.{key_read}
 use Rattle.lq_plan.proofs.leading.add_by_cell.Goals as goal
 
 pub returns-then-not-is_wanted-clause-added : goal.returns-then-not-is_wanted-clause-added

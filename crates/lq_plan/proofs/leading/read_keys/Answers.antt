@@ -1,6 +1,6 @@
 use Rattle.lq_plan.specs.Prepared.{GivesCell}
 use Rattle.std.proofs.Common.{ap, length}
-use Rattle.lq_plan.proofs.LeadingLemmas.{at_place, counts_all, counts_on, reads_begin, reads_end, reads_on}
+use Rattle.lq_plan.proofs.LeadingLaws.{at_place, counts_all, counts_on, reads_begin, reads_end, reads_on}
 use Rattle.lq_plan.proofs.leading.read_keys.Goals as goal
 
 pub loop-lambda-init : goal.loop-lambda-init

@@ -2,7 +2,7 @@ use Rattle.std.proofs.Common.{◌≡◌, List, drop, length, take}
 use Rattle.lq_value.specs.declared.value.Value.{Value}
 use Rattle.lq_language.specs.Worlds.{World}
 use Rattle.lq_plan.specs.Leading.{LambdasGiveCells, bodies_of}
-use Rattle.lq_plan.proofs.LeadingLemmas.{Reads}
+use Rattle.lq_plan.proofs.LeadingLaws.{Reads}
 use Rattle.lq_plan.proofs.leading.read_keys.Given as goal
 
 -- the keys so far, and those of the lambdas that are left

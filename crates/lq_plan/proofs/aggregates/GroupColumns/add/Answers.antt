@@ -4,7 +4,7 @@ use Rattle.std.proofs.lemmas.Option.{slice_get-get_or}
 use Rattle.lq_value.specs.declared.value.Value.TheVariants as value
 use Rattle.lq_operators.specs.GroupTallies.{AddsRow, numbers_at, tallies_in}
 use Rattle.lq_plan.specs.Aggregates.{begins_in}
-use Rattle.lq_plan.proofs.AggregateLemmas.{cell_given, numbers_read}
+use Rattle.lq_plan.proofs.AggregateLaws.{cell_given, numbers_read}
 use Rattle.lq_plan.proofs.aggregates.GroupColumns.add.Goals as goal
 
 pub returns-in_ok-add_row-in-Some-clause-added : goal.returns-in_ok-add_row-in-Some-clause-added

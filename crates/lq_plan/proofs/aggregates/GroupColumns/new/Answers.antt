@@ -1,7 +1,7 @@
 use Rattle.std.proofs.Common.{◌≤◌, ◌∙◌, Some, ap, sym, subst, take, ◌+◌, arith}
 use Rattle.std.proofs.lemmas.Grind.{common_steps}
 use Rattle.lq_plan.specs.Aggregates.{AreColumnsOf}
-use Rattle.lq_plan.proofs.AggregateLemmas.{columns_all, columns_on}
+use Rattle.lq_plan.proofs.AggregateLaws.{columns_all, columns_on}
 use Rattle.lq_plan.proofs.aggregates.GroupColumns.new.Goals as goal
 
 pub loop-tally-preserved : goal.loop-tally-preserved

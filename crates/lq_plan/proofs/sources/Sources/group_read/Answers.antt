@@ -1,7 +1,7 @@
 use Rattle.std.proofs.Common.{◌∷◌, [], length, arith}
 use Rattle.std.proofs.lemmas.Grind.{common_steps}
 use Rattle.lq_plan.specs.Slots.{values_in}
-use Rattle.lq_plan.proofs.AggregateLemmas.{tally_put}
+use Rattle.lq_plan.proofs.AggregateLaws.{tally_put}
 use Rattle.lq_plan.proofs.sources.Sources.group_read.Goals as goal
 
 pub returns-in_ok-push-in-Some-clause-read : goal.returns-in_ok-push-in-Some-clause-read

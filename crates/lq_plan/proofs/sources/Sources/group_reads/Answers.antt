@@ -2,7 +2,7 @@ use Rattle.std.proofs.Common.{IfSome, length, refl, sym, subst}
 use Rattle.lq_plan.specs.Aggregates.{GiveNumbers, IsReadOf, TallyGivesCell}
 use Rattle.lq_plan.specs.Plans.{world}
 use Rattle.lq_plan.specs.Slots.{values_in}
-use Rattle.lq_plan.proofs.AggregateLemmas.{all_after, reads_all, reads_on}
+use Rattle.lq_plan.proofs.AggregateLaws.{all_after, reads_all, reads_on}
 use Rattle.lq_plan.proofs.sources.Sources.group_reads.Goals as goal
 
 pub loop-field-preserved : goal.loop-field-preserved

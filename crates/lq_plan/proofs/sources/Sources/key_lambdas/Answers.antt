@@ -1,7 +1,7 @@
 use Rattle.std.proofs.Common.{ap, subst, sym}
 use Rattle.lq_plan.specs.Leading.{GiveCells, bodies_of}
 use Rattle.lq_plan.specs.Plans.{GivesCell}
-use Rattle.lq_plan.proofs.LeadingLemmas.{all_behind, bodies_all, bodies_more}
+use Rattle.lq_plan.proofs.LeadingLaws.{all_behind, bodies_all, bodies_more}
 use Rattle.lq_plan.proofs.sources.Sources.key_lambdas.Goals as goal
 
 pub loop-key-init : goal.loop-key-init
