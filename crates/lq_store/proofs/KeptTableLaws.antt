@@ -15,7 +15,7 @@ use Rattle.lq_value.specs.declared.table.Schema.{Schema}
 use Rattle.lq_value.specs.declared.scalar.Scalar.{Scalar}
 use Rattle.lq_store.specs.declared.error.StoreError.{StoreError}
 use Rattle.lq_store.specs.declared.error.StoreError.TheVariants.{Arity, CellType, CellRange, Full}
-use Rattle.lq_store.specs.Rules.{AreNumbered, IsStore, IsTable, are_distinct, are_in_ranges, fits_schema, have_types, name_of}
+use Rattle.lq_store.specs.Rules.{AreNumbered, IsStore, IsTable, are_distinct, are_in_ranges, fits_schema, has_ints, have_types, is_of_32_bits, name_of}
 use Rattle.lq_store.specs.Calls.{Inserts, Pushes, is_listed, refusal_of, with_row}
 
 -- a conjunction that is true has true parts
@@ -79,13 +79,14 @@ fits-push : (a b : Bool) → a ≡ true → b ≡ true → (a && (b && true)) �
 fits-push a b e f = rw (e, f) refl
 
 -- a table keeps its rules as a row joins it
-pub table-push : (t : Table) (cells : List Scalar) → IsTable t → refusal_of t cells ≡ None → IsTable (with_row t cells)
-table-push t cells h none =
+pub table-push : (t : Table) (cells : List Scalar) → IsTable t → list_all is_of_32_bits cells ≡ true → refusal_of t cells ≡ None → IsTable (with_row t cells)
+table-push t cells h ints none =
     let fit = unrefused (length t.schema.columns == length cells) (have_types t.schema.columns cells) (are_in_ranges t.schema.columns cells) (t.next == 2 ^ 64) none in
     let row : Row = record { number = t.next; cells = cells } in
     record {
       rules = h.rules;
       fits = rw (list_all-append (fits_schema t.schema) t.rows (row ∷ [])) (fits-push (list_all (fits_schema t.schema) t.rows) (fits_schema t.schema row) h.fits fit);
+      ints = rw (list_all-append has_ints t.rows (row ∷ [])) (fits-push (list_all has_ints t.rows) (has_ints row) h.ints ints);
       numbered = numbered-push 1 t.rows t.next cells h.numbered;
     }
 
@@ -124,6 +125,7 @@ pub table-filter : (t : Table) (test : Row → Bool) → IsTable t → IsTable (
 table-filter t test h = record {
   rules = h.rules;
   fits = list_all-filter (fits_schema t.schema) test t.rows h.fits;
+  ints = list_all-filter has_ints test t.rows h.ints;
   numbered = numbered-filter test 1 t.rows t.next h.numbered;
 }
 

@@ -1,5 +1,5 @@
 -- The rules that the rows and the columns of a table keep, and the tables of a store.
-use Rattle.std.specs.Prelude.{Bool, true, false, not, ◌&&◌, ◌==◌, nat_eq, nat_le, int_le, ◌≡◌, ℕ, ◌+◌, ◌≤◌, ℤ, List, [], ◌∷◌, length, map, Option, Some, None}
+use Rattle.std.specs.Prelude.{Bool, true, false, not, ◌&&◌, ◌==◌, nat_eq, nat_le, int_le, neg_ℤ, pos, ◌≡◌, ℕ, ◌+◌, ◌≤◌, ℤ, List, [], ◌∷◌, length, map, Option, Some, None}
 use Rattle.std.specs.List.{list_all, list_any, zip}
 use Rattle.std.specs.Cmp.Lexicographic.{pointwise}
 use Rattle.lq_value.specs.Tables.{Table}
@@ -25,6 +25,11 @@ is_of_type _ _ = false
 abbrev pub is_in_range : Option (ℤ × ℤ) → Scalar → Bool
 is_in_range (Some bounds) (cell.Int number) = int_le bounds.0 number && int_le number bounds.1
 is_in_range _ _ = true
+
+-- whether a number that a cell holds is one of 32 bits
+abbrev pub is_of_32_bits : Scalar → Bool
+is_of_32_bits (cell.Int number) = int_le (neg_ℤ (pos 2147483648)) number && int_le number (pos 2147483647)
+is_of_32_bits _ = true
 
 -- whether each cell is of the type of its column
 abbrev pub have_types : List Column → List Scalar → Bool
@@ -60,6 +65,10 @@ keeps_rules schema =
     && are_distinct (map (λ column. column.name) schema.columns)
     && list_all (λ column. is_fair_range column.ty column.range) schema.columns
 
+-- whether each number that a row holds is one of 32 bits
+abbrev pub has_ints : Row → Bool
+has_ints row = list_all is_of_32_bits row.cells
+
 -- the numbers of the rows rise from the first bound on, and are below the second
 abbrev pub AreNumbered : ℕ → List Row → ℕ → Type 0
 AreNumbered low [] next = low ≤ next
@@ -69,6 +78,7 @@ AreNumbered low (row ∷ rest) next = (low ≤ row.number) × AreNumbered (row.n
 pub record IsTable (t : Table) : Type 0 where
   pub rules : keeps_rules t.schema ≡ true
   pub fits : list_all (fits_schema t.schema) t.rows ≡ true
+  pub ints : list_all has_ints t.rows ≡ true
   pub numbered : AreNumbered 1 t.rows t.next
 
 -- the name of a table

@@ -5,7 +5,7 @@ ghost use Rattle.lq_store.specs.Rules.{keeps_rules};
 ghost use Rattle.lq_store.specs.Calls.{is_listed, refusal_of};
 ghost use Rattle.lq_store.specs.Numbers.{Rise, from_number, is_first};
 
-use crate::checks::{are_in_ranges, are_of_types};
+use crate::checks::{are_in_ranges, are_of_types, cells_fit};
 use crate::error::StoreError;
 use lq_value::{List, Row, Scalar, Schema};
 use std::alloc::Global;
@@ -80,6 +80,7 @@ impl Table {
         if let Some(error) = self.refusal(cells.as_slice()) {
             return Err((error, cells));
         }
+        cells_fit(cells.as_slice());
         let number = self.last + 1;
         match self.rows.push(row_of(number, cells)) {
             Ok(()) => {
