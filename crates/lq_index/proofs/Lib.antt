@@ -1,0 +1,9 @@
+pub mod AdditionLemmas
+pub mod CompactionLemmas
+pub mod EntryLemmas
+pub mod MoveLemmas
+pub mod PlaceLemmas
+pub mod RemovalLaws
+pub mod RemovalLemmas
+pub mod SearchLemmas
+pub mod StartLemmas
