@@ -41,7 +41,7 @@ impl Index {
         }
     }
 
-    /// The index of a column of these rows, in one pass. A row that is shorter has null there. It is
+    /// The index of a column of these rows. A row that is shorter has null there. It is
     /// refused for want of memory alone, and past 2^32 rows.
     pub fn build(alloc: Global, rows: &[Row], column: usize) -> Result<Index, AllocError>
         ensures { IfOk result (λ index. Indexes index (cells_of column rows.now)) }
